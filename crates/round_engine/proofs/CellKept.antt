@@ -1,6 +1,7 @@
 -- The answers by cells at a stage: what they tell, and how they follow a plane.
 use Rattle.std.proofs.Common.{Vec, Global, ◌≡◌, ◌≢◌, ℕ, ◌+◌, ◌*◌, ◌<◌, ◌≤◌, ◌^◌, ◌==◌, ◌||◌, nat_lt, Bool, true, false, not, ◌&&◌, List, [], ◌∷◌, ◌++◌, length, length-append, map, get_or, slice_get, slice_index, take, Some, IsTrue, inl, inr, refl, sym, ap, subst, ◌∙◌, arith, if◌then◌else◌}
 use Rattle.std.specs.List.{AllByRecursion, IsDistinct, list_any, range_with_len, sum}
+use Rattle.std.proofs.Math.Path.{fun_ext}
 use Rattle.std.proofs.Math.Seq.{take-append_seam}
 use Rattle.std.proofs.lemmas.Bool.{and_parts, not-true, cases_Bool, cases_eq, eq-eqb, eqb-true, false≢true, lt-ltb, or_parts, true≢false}
 use Rattle.std.proofs.lemmas.List.{get_or-map, get_or-set_other, get_or-set_same, length-map, take-map, take_more}
@@ -8,9 +9,9 @@ use Rattle.std.proofs.lemmas.List.Sums.{sum_by_more, sum_by_more_le}
 use Rattle.std.proofs.lemmas.List.FromFn.{length-map-range_with_len}
 use Rattle.std.proofs.lemmas.Map.Steps.{length-le_from_distinct_below}
 use Rattle.std.proofs.lemmas.Option.{slice_get_within}
-use Rattle.daq_table.specs.Tables.{Frame, ends_at, planes}
+use Rattle.daq_table.specs.Tables.{Frame, ends_at, planes, rows_of}
 use Rattle.aggregates.specs.Runnings.{IsBlank, StandsFor, Tallies}
-use Rattle.kleene_filter.specs.Filters.{stands_in}
+use Rattle.kleene_filter.specs.Filters.{is_certain, is_possible, stands_in}
 use Rattle.known_column.specs.KnownTables.{KnownTable, unread_table}
 use Rattle.query_model.specs.declared.bounds.Truth.TheVariants.{False, Unknown, True}
 use Rattle.query_model.specs.declared.query.Shape.{Shape}
@@ -32,11 +33,14 @@ use Rattle.round_engine.specs.KeptCells.{HaveKeptParts}
 use Rattle.round_engine.specs.KeptSums.{columns_of as columns_at}
 use Rattle.round_engine.specs.Moves.{AreMoved, is_moved}
 use Rattle.round_engine.specs.OneCell.{HoldMasks}
+use Rattle.round_engine.specs.declared.seen_rows.SeenRows.{SeenRows}
+use Rattle.round_engine.specs.SeenRows.{HoldSeen, WereRows}
 use Rattle.round_engine.specs.Stages.{IsOpenQuery, IsOpenShape, IsOpenStage, Stage, stepped}
 use Rattle.round_engine.proofs.CellRows.{groups_within}
 use Rattle.round_engine.proofs.Kept.{item_of}
 use Rattle.round_engine.proofs.Openings.{agree_push}
 use Rattle.round_engine.proofs.Places.{read_there}
+use Rattle.round_engine.proofs.RowPairs.{rows_of_mask}
 use Rattle.round_engine.proofs.Unmoved.{pair_by_unmoved, pred_unmoved, range_unmoved, same_given}
 
 -- ---- a plane of a group column
@@ -297,16 +301,33 @@ written new rest n same = ap (λ k. take k (new ++ rest)) (sym same) ∙ take-ap
 
 -- ---- the answers after a plane
 
+-- the rows that were seen are of as many rows
+pub seen_held : (stage : Stage) (seen : SeenRows) → WereRows stage seen.must seen.may → HoldSeen stage.frame.rows seen
+seen_held stage seen were = record {
+  must = rows_of_mask is_certain seen.must _ stage.query.pred (columns_at stage) were.must_is refl;
+  may = rows_of_mask is_possible seen.may _ stage.query.pred (columns_at stage) were.may_is refl;
+}
+
+-- a plane of a column that the condition does not read leaves them
+pub seen_still : (before : Stage) (c : ℕ) (bits : List Bool) (seen : SeenRows) → moves_rows before.query c ≡ false → WereRows before seen.must seen.may → WereRows (stepped before c bits) seen.must seen.may
+seen_still before c bits seen stay were =
+    let still = fun_ext (λ r. sym (pred_unmoved before.query.pred before.frame before.known c bits r (or_parts (stands_in (columns_of_pred before.query.pred) c) (is_group (groups_of before.query.shape) c) stay).0)) in
+    record {
+      must_is = were.must_is ∙ ap (λ f. map is_certain (map f (rows_of before.frame))) still;
+      may_is = were.may_is ∙ ap (λ f. map is_possible (map f (rows_of before.frame))) still;
+    }
+
 -- parted further, with room for the rest
 pub parted_holds : (before stage : Stage) (c : ℕ) (bits : List Bool) (groups : Groups) (parted : Groups) → stage ≡ stepped before c bits → AreGroups before groups →
-    IsParted (stepped before c bits) parted.cells parted.single.items → parted.presence ≡ groups.presence → parted.runnings ≡ groups.runnings → parted.masks ≡ groups.masks → parted.kept ≡ groups.kept →
+    IsParted (stepped before c bits) parted.cells parted.single.items → parted.presence ≡ groups.presence → parted.runnings ≡ groups.runnings → parted.masks ≡ groups.masks → parted.seen ≡ groups.seen → parted.kept ≡ groups.kept →
     HaveKeptParts (columns_at (stepped before c bits)) before.query.items groups.kept.items → HoldGroups stage parted
-parted_holds before stage c bits groups parted read are is presence runnings masks same kept = subst (λ (s : Stage). HoldGroups s parted) (sym read) (record {
+parted_holds before stage c bits groups parted read are is presence runnings masks seen same kept = subst (λ (s : Stage). HoldGroups s parted) (sym read) (record {
   grouped = are.grouped;
   parted = is;
   presence = subst (HasRoom (stepped before c bits) every_row) (sym presence) (record { kind = are.presence.has_room.kind; room = are.presence.has_room.room });
   items = subst (λ (v : Vec Tallies Global). HaveCells before.query.items (most_cells before) v.items) (sym runnings) (room_of before groups.runnings.items are.items);
   masks = subst (HoldMasks before.frame.rows) (sym masks) are.masks;
+  seen = subst (HoldSeen before.frame.rows) (sym seen) (seen_held before groups.seen are.seen);
   kept = subst (λ (v : Vec KeptParts Global). HaveKeptParts (columns_at (stepped before c bits)) before.query.items v.items) (sym same) kept;
 })
 

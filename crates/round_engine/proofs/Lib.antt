@@ -9,6 +9,7 @@ pub mod Ratios
 pub mod Interleaved
 pub mod MaskTruths
 pub mod MovedCells
+pub mod SeenRows
 pub mod Narrow
 pub mod Declared
 pub mod DigitCells

@@ -48,7 +48,7 @@ pub record AreBlockWords (query : Query) (columns : KnownTable) (known : KnownCo
 pub first_low : (first word n : ℕ) → first ≡ word % 2 ^ n → first < 2 ^ n
 first_low first word n is = subst (λ k. k < 2 ^ n) (and_mask word n ∙ sym is) (mask_lt word n)
 
-digit-first : (n word r : ℕ) → r < n → digit_at r (word % 2 ^ n) ≡ digit_at r word
+pub digit-first : (n word r : ℕ) → r < n → digit_at r (word % 2 ^ n) ≡ digit_at r word
 digit-first n word r below =
     ap (digit_at r) (sym (and_mask word n)) ∙ digit-and r word (2 ^ n - 1) ∙ ap (λ k. digit_at r word && (k == 1)) (bit_at_ones n r below) ∙ kept (digit_at r word)
   where

@@ -7,7 +7,7 @@ use Rattle.aggregates.specs.Runnings.{StandsFor, Tallies}
 use Rattle.kleene_filter.specs.Filters.{stands_in}
 use Rattle.query_model.specs.Answers.{every_row, groups_of}
 use Rattle.query_model.specs.Groups.{is_one_value, pairs_in_cell_below, truth_in_cell}
-use Rattle.query_model.specs.Knowledge.{ranges_of}
+use Rattle.query_model.specs.Knowledge.{CanTake, ranges_of}
 use Rattle.query_model.specs.Meaning.{columns_of_pred}
 use Rattle.query_model.specs.Bounds.{Pair, average_bound_of, pair_by}
 use Rattle.query_model.specs.declared.query.ItemKind.TheVariants.{Avg}
@@ -23,6 +23,7 @@ use Rattle.round_engine.specs.KeptSums.{columns_of}
 use Rattle.round_engine.specs.Moves.{is_marked}
 use Rattle.round_engine.specs.Narrowness.{FitsNarrow}
 use Rattle.round_engine.specs.OneCell.{HoldMasks}
+use Rattle.round_engine.specs.SeenRows.{HoldSeen, WereRows}
 use Rattle.round_engine.specs.Stages.{IsGrouped, IsOpenStage, Stage, stepped}
 use Rattle.round_engine.specs.Totals.{AreEach}
 
@@ -94,13 +95,15 @@ HaveCells items most runnings = AreEach (λ i item running. (running.kind ≡ it
 
 -- ---- the answers
 
--- the rows are parted, the count of rows and each item stand for the pairs of each cell, and what is kept is that of these columns
+-- the rows are parted, the count of rows and each item stand for the pairs of each cell, what is kept is that of these columns, and
+-- the rows of the condition are those of the stage
 pub record AreGroups (stage : Stage) (groups : Groups) : Type 0 where
   pub grouped : IsGrouped stage.query.shape
   pub parted : IsParted stage groups.cells groups.single.items
   pub presence : StandForCells stage every_row groups.presence
   pub items : StandForEach stage groups.runnings.items
   pub masks : HoldMasks stage.frame.rows groups.masks
+  pub seen : WereRows stage groups.seen.must groups.seen.may
   pub kept : HaveKeptParts (columns_of stage) stage.query.items groups.kept.items
 
 -- the rows are parted, and there is room for all else
@@ -110,6 +113,7 @@ pub record HoldGroups (stage : Stage) (groups : Groups) : Type 0 where
   pub presence : HasRoom stage every_row groups.presence
   pub items : HaveCells stage.query.items (most_cells stage) groups.runnings.items
   pub masks : HoldMasks stage.frame.rows groups.masks
+  pub seen : HoldSeen stage.frame.rows groups.seen
   pub kept : HaveKeptParts (columns_of stage) stage.query.items groups.kept.items
 
 -- they were the answers before the next plane of a column was read
@@ -117,6 +121,7 @@ pub record WereGroups (stage : Stage) (column : ℕ) (bits : List Bool) (groups 
   pub before : Stage
   pub open_stage : IsOpenStage before
   pub answered : AreGroups before groups
+  pub legal : CanTake before.frame before.known column bits
   pub read : stage ≡ stepped before column bits
 
 -- they are the answers of an open stage

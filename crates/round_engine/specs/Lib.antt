@@ -4,6 +4,7 @@ pub mod Cells
 pub mod Promises
 pub mod Progresses
 pub mod MovedCells
+pub mod SeenRows
 pub mod Moves
 pub mod Counts
 pub mod DigitCells

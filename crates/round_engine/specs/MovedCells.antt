@@ -1,11 +1,11 @@
--- Sums of many cells before the next plane of a column and behind it, where the condition reads the column, and neither the item nor a key.
-use Rattle.std.specs.Prelude.{◌≡◌, ◌≢◌, ℕ, ℤ, Bool, false, List, length, map, if◌then◌else◌, slice_get}
+-- Items of many cells before the next plane of a column and behind it, where the condition reads the column, and neither the item nor a key.
+use Rattle.std.specs.Prelude.{◌≡◌, ◌≢◌, ℕ, ℤ, Bool, false, List, length, if◌then◌else◌, slice_get}
 use Rattle.std.specs.declared.option.Option.TheVariants.{Some}
 use Rattle.aggregates.specs.Runnings.{Tallies}
-use Rattle.round_engine.specs.CellAnswers.{StandForCells}
+use Rattle.round_engine.specs.CellAnswers.{StandForCells, StandForEach}
 use Rattle.digit_sums.specs.declared.moves.RowMoves.{RowMoves}
 use Rattle.digit_sums.specs.Moves.{AreFewMoves, AreMoved, CountedMoves, with_came, with_left}
-use Rattle.kleene_filter.specs.Filters.{is_certain, is_possible, stands_in, truths_under}
+use Rattle.kleene_filter.specs.Filters.{stands_in}
 use Rattle.query_model.specs.Answers.{groups_of}
 use Rattle.query_model.specs.Groups.{pairs_in_cell_below}
 use Rattle.query_model.specs.Knowledge.{CanTake}
@@ -13,7 +13,7 @@ use Rattle.query_model.specs.Meaning.{columns_of}
 use Rattle.query_model.specs.Queries.{Aggregate}
 use Rattle.row_groups.specs.Partition.{is_group}
 use Rattle.round_engine.specs.Cells.{cells_in}
-use Rattle.round_engine.specs.KeptSums.{columns_of as known_in}
+use Rattle.round_engine.specs.SeenRows.{WereRows}
 use Rattle.round_engine.specs.Stages.{IsOpenStage, Stage, stepped}
 
 -- the stage before the last plane of a column: neither the item reads the column nor are rows grouped by it
@@ -25,11 +25,6 @@ pub record IsMovedFrom (stage : Stage) (item : Aggregate) (before : Stage) : Typ
   pub read : stage ≡ stepped before column bits
   pub cells_stay : is_group (groups_of before.query.shape) column ≡ false
   pub values_stay : stands_in (columns_of item.arg) column ≡ false
-
--- the masks have the rows at which the condition surely held there, and those at which it may have held
-pub record WereRows (before : Stage) (must may : List Bool) : Type 0 where
-  pub must_is : must ≡ map is_certain (truths_under before.query.pred (known_in before))
-  pub may_is : may ≡ map is_possible (truths_under before.query.pred (known_in before))
 
 -- of each cell it is counted what its rows below a number changed
 pub record AreMovedBelow (before stage : Stage) (item : Aggregate) (rows : ℕ) (counted : CountedMoves) : Type 0 where
@@ -56,3 +51,24 @@ pub record WereMoved (stage : Stage) (item : Aggregate) (must may : List Bool) (
   pub step : IsMovedFrom stage item before
   pub rows : WereRows before must may
   pub stood : StandForCells before item running
+
+-- the stage before the last plane of a column by which no rows are grouped, and the rows of the condition there
+pub record WasBefore (stage : Stage) (column : ℕ) (must may : List Bool) (before : Stage) : Type 0 where
+  pub bits : List Bool
+  pub open_stage : IsOpenStage before
+  pub legal : CanTake before.frame before.known column bits
+  pub read : stage ≡ stepped before column bits
+  pub cells_stay : is_group (groups_of before.query.shape) column ≡ false
+  pub rows : WereRows before must may
+
+-- an item's cells stood for its rows there, whether it reads the column or not
+pub record WereBefore (stage : Stage) (item : Aggregate) (column : ℕ) (must may : List Bool) (running : Tallies) : Type 0 where
+  pub before : Stage
+  pub was : WasBefore stage column must may before
+  pub stood : StandForCells before item running
+
+-- and those of each item
+pub record WereEachBefore (stage : Stage) (column : ℕ) (must may : List Bool) (runnings : List Tallies) : Type 0 where
+  pub before : Stage
+  pub was : WasBefore stage column must may before
+  pub stood : StandForEach before runnings

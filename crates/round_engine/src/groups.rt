@@ -1,14 +1,14 @@
 //! The answers of a query with groups: for each cell of keys one for each item, and whether the keys are in the result.
 
-ghost use Rattle.std.specs.Prelude.{◌≡◌, ◌≢◌, ◌<◌, length, slice_get, IfOk, IfSome, IsSome, IsTrue, ◌↔◌};
+ghost use Rattle.std.specs.Prelude.{◌≡◌, ◌≢◌, ◌<◌, false, length, slice_get, IfOk, IfSome, IsSome, IsTrue, ◌↔◌};
 ghost use Rattle.kleene_filter.specs.Filters.{truths_under};
 ghost use Rattle.known_column.specs.KnownTables.{unread_table};
 ghost use Rattle.query_model.specs.declared.query.ItemKind.TheVariants.{Avg};
-ghost use Rattle.query_model.specs.Answers.{every_row};
+ghost use Rattle.query_model.specs.Answers.{every_row, groups_of};
 ghost use Rattle.query_model.specs.Bounds.{fractions_of};
 ghost use Rattle.round_engine.specs.CellAnswers.{AreGroups, HasCell, HasItem, HasRoom, HaveCells, HoldGroups, most_cells};
 ghost use Rattle.round_engine.specs.CellAnswers.{IsParted, StandForCells, StandForEach, StandForOthers, WereGroups};
-ghost use Rattle.row_groups.specs.Partition.{is_legal_cell, ranges_in, ranges_of_cell};
+ghost use Rattle.row_groups.specs.Partition.{is_group, is_legal_cell, ranges_in, ranges_of_cell};
 ghost use Rattle.round_engine.specs.DigitCells.{IsTold};
 ghost use Rattle.round_engine.specs.Cells.{absence_in_cell, average_in_cell, bound_in_cell, cells_in, parts_in};
 ghost use Rattle.round_engine.specs.Engines.{stage_of};
@@ -19,6 +19,7 @@ ghost use Rattle.round_engine.specs.Stages.{IsGrouped, IsOpenItem, IsOpenStage, 
 
 use crate::cell_filling::fill_cells;
 use crate::cell_room::{every_row, most_cells, open_cells, open_each};
+use crate::condition_rounds::{follow_each, follow_presence};
 use crate::group_columns::{is_group, part_cells};
 use crate::kept_cells::{KeptParts, open_parts};
 use crate::moved::{moved_items, moves_rows};
@@ -26,6 +27,7 @@ use crate::one_cell::CellMasks;
 use crate::one_key::tell_single;
 use crate::presence_counts::copy_each;
 use crate::read_cells::ReadRows;
+use crate::seen_rows::SeenRows;
 use crate::totals::is_by_masks;
 use aggregates::Running;
 use kleene_filter::Filter;
@@ -47,12 +49,13 @@ pub(crate) struct Groups {
     presence: Running,
     pub(crate) runnings: Vec<Running>,
     masks: CellMasks,
+    seen: SeenRows,
     kept: Vec<KeptParts>,
 }
 
 // Adds all rows to an item: by masks where these tell it of one cell that has all rows, or of each of few, by counts of rows where these
 // tell each cell, else each row to the cell that it is in.
-fn fill_item(
+pub(crate) fn fill_item(
     query: &TypedQuery,
     item: &Item,
     columns: &LentColumns<'_>,
@@ -369,6 +372,7 @@ impl Groups {
         let presence = Running::open(alloc, ItemKind::Count, most)?;
         let runnings = open_each(alloc, query, most)?;
         let masks = CellMasks::open(alloc, columns.rows(), most)?;
+        let seen = SeenRows::open(alloc, columns.rows())?;
         let kept = open_parts(alloc, query, columns, most.min(FEW_CELLS as usize))?;
         Ok(Groups {
             cells,
@@ -376,6 +380,7 @@ impl Groups {
             presence,
             runnings,
             masks,
+            seen,
             kept,
         })
     }
@@ -421,6 +426,7 @@ impl Groups {
             &mut self.runnings,
             &mut self.kept,
         );
+        self.seen.take(query, columns, filter);
     }
 
     // Parts the rows where the column whose plane was read is a group column.
@@ -445,7 +451,83 @@ impl Groups {
         }
     }
 
-    // Follows the columns after a plane of one of them: what it moves is added anew, or told by its bits.
+    // Follows a plane of a column by which no rows are grouped, by the rows that it moved.
+    fn follow_condition(
+        &mut self,
+        query: &TypedQuery,
+        columns: &LentColumns<'_>,
+        filter: &Filter,
+        column: usize,
+        plane: &Plane,
+        block: &mut RowBlock,
+    )
+        requires open_stage { IsOpenStage (stage_of query.now columns.now) }
+        requires judged { filter.now.truths ≡ truths_under query.now.pred columns.now }
+        requires before { WereGroups (stage_of query.now columns.now) column plane.now self.old }
+        requires rows { length plane.now ≡ columns.now.frame.rows }
+        requires cells_stay { is_group (groups_of query.now.shape) column ≡ false }
+        requires same { block.old.frame.columns ≡ columns.now.frame.columns }
+        ensures same { block.new.frame.columns ≡ columns.now.frame.columns }
+        ensures answers { AreGroups (stage_of query.now columns.now) self.new }
+    {
+        others_leave_cells();
+        let rows = ReadRows {
+            column,
+            plane,
+            filter,
+            cells: &self.cells,
+            single: &self.single,
+        };
+        follow_presence(
+            query,
+            columns,
+            rows,
+            &self.seen,
+            block,
+            &mut self.masks,
+            &mut self.presence,
+        );
+        follow_each(
+            query,
+            columns,
+            rows,
+            &self.seen,
+            &self.presence,
+            block,
+            &mut self.masks,
+            &mut self.runnings,
+            &mut self.kept,
+        );
+        self.seen.take(query, columns, filter);
+    }
+
+    // Follows a plane by which rows are parted, or which the condition reads.
+    fn follow_rows(
+        &mut self,
+        query: &TypedQuery,
+        columns: &LentColumns<'_>,
+        filter: &Filter,
+        column: usize,
+        plane: &Plane,
+        block: &mut RowBlock,
+    )
+        requires open_stage { IsOpenStage (stage_of query.now columns.now) }
+        requires judged { filter.now.truths ≡ truths_under query.now.pred columns.now }
+        requires before { WereGroups (stage_of query.now columns.now) column plane.now self.old }
+        requires rows { length plane.now ≡ columns.now.frame.rows }
+        requires same { block.old.frame.columns ≡ columns.now.frame.columns }
+        ensures same { block.new.frame.columns ≡ columns.now.frame.columns }
+        ensures answers { AreGroups (stage_of query.now columns.now) self.new }
+    {
+        if is_group(query, column) || self.cells.count() <= FEW_CELLS {
+            self.refine(query, columns, column, plane);
+            self.fill(query, columns, filter, block);
+        } else {
+            self.follow_condition(query, columns, filter, column, plane, block);
+        }
+    }
+
+    // Follows the columns after a plane of one of them: by the rows that it moves, or by its bits.
     pub(crate) fn refresh(
         &mut self,
         query: &TypedQuery,
@@ -464,8 +546,7 @@ impl Groups {
         ensures answers { AreGroups (stage_of query.now columns.now) self.new }
     {
         if moves_rows(query, column) {
-            self.refine(query, columns, column, plane);
-            self.fill(query, columns, filter, block);
+            self.follow_rows(query, columns, filter, column, plane, block);
         } else {
             others_leave_cells();
             let moved = moved_items(query, column);

@@ -9,6 +9,7 @@ mod cell_tally;
 mod cells;
 mod column_bounds;
 mod compact_cells;
+mod condition_rounds;
 mod counted_cells;
 mod counted_sums;
 mod counts;

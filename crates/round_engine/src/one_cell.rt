@@ -16,7 +16,7 @@ ghost use Rattle.round_engine.specs.Stages.{IsOpenItem, IsOpenStage};
 use crate::kept_cells::KeptCells;
 use crate::selection::{Selected, Selection, select_all};
 use aggregates::{CellCounts, CellSums, Running, Tally};
-use digit_sums::{CellOnes, DigitSums};
+use digit_sums::{CellMoves, CellOnes, DigitSums};
 use kleene_filter::Filter;
 use known_column::LentColumns;
 use plane_kernels::Mask;
@@ -34,6 +34,7 @@ pub(crate) struct CellMasks {
     pub(crate) sums: CellSums,
     pub(crate) digits: DigitSums,
     pub(crate) ones: CellOnes,
+    pub(crate) moves: CellMoves,
 }
 
 impl<'a> Selected<'a> {
@@ -90,6 +91,7 @@ impl CellMasks {
             sums: CellSums::open(alloc, cells)?,
             digits: DigitSums::open(alloc, cells)?,
             ones: CellOnes::open(alloc, cells)?,
+            moves: CellMoves::open(alloc, cells)?,
         })
     }
 

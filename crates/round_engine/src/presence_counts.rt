@@ -14,7 +14,7 @@ use query_model::{Item, TypedQuery, pairs_are_few};
 use row_groups::{Cells, cells_tell_keys};
 
 // Makes the cells of an item stand for its values at the rows that are counted of each.
-fn copy_counts(
+pub(crate) fn copy_counts(
     query: &TypedQuery,
     item: &Item,
     columns: &LentColumns<'_>,

@@ -37,7 +37,7 @@ pub(crate) struct ReadRows<'a> {
 }
 
 // The first so many bits of a word.
-fn first_bits(word: u64, count: usize) -> u64
+pub(crate) fn first_bits(word: u64, count: usize) -> u64
     requires some { 0 < count }
     requires fits { count ≤ 64 }
     ensures { result ≡ word % 2 ^ count }

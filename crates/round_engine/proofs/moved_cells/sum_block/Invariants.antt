@@ -1,13 +1,21 @@
-use Rattle.std.proofs.Common.{◌≡◌, ◌*◌, length}
+use Rattle.std.proofs.Common.{◌≡◌, ℕ, ◌*◌, true, length}
+use Rattle.plane_kernels.specs.Rows.{digit_at}
 use Rattle.round_engine.specs.Engines.{stage_of}
-use Rattle.round_engine.specs.MovedCells.{AreMovedBelow, IsMovedFrom, WereRows}
+use Rattle.round_engine.specs.MovedCells.{AreMovedBelow, IsMovedFrom}
+use Rattle.round_engine.specs.SeenRows.{WereRows}
 use Rattle.round_engine.specs.Stages.{Stage}
+use Rattle.round_engine.proofs.MovedCells.{IsCountedTo}
 use Rattle.round_engine.proofs.moved_cells.sum_block.Given as goal
 
-abbrev pub invariant-loop-row : goal.invariant-loop-row
-invariant-loop-row l = record {
+abbrev pub invariant-loop-rest : goal.invariant-loop-rest
+invariant-loop-rest l = record {
   room : l.moves.room ≡ l.fn.moves.room;
   cells : length l.moves.cells ≡ length l.fn.moves.cells;
+  inside : (row : ℕ) → digit_at row l.rest ≡ true → digit_at row l.moved ≡ true;
   counted : (before : Stage) → IsMovedFrom (stage_of l.query l.columns) l.item before → WereRows before l.seen.must l.seen.may →
-      AreMovedBelow before (stage_of l.query l.columns) l.item (64 * l.number) l.fn.moves → AreMovedBelow before (stage_of l.query l.columns) l.item l.row l.moves;
+      AreMovedBelow before (stage_of l.query l.columns) l.item (64 * l.number) l.fn.moves →
+      IsCountedTo before (stage_of l.query l.columns) l.item l.number l.moved l.rest l.moves;
 }
+
+abbrev pub decreases-loop-rest : goal.decreases-loop-rest
+decreases-loop-rest l = l.rest

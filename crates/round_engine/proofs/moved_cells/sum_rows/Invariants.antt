@@ -1,7 +1,8 @@
 use Rattle.std.proofs.Common.{◌≡◌, ◌*◌, length, min}
 use Rattle.round_engine.specs.Cells.{cells_in}
 use Rattle.round_engine.specs.Engines.{stage_of}
-use Rattle.round_engine.specs.MovedCells.{AreMovedBelow, IsMovedFrom, WereRows}
+use Rattle.round_engine.specs.MovedCells.{AreMovedBelow, IsMovedFrom}
+use Rattle.round_engine.specs.SeenRows.{WereRows}
 use Rattle.round_engine.specs.Stages.{Stage}
 use Rattle.round_engine.proofs.moved_cells.sum_rows.Given as goal
 

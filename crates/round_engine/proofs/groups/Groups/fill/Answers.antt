@@ -28,5 +28,6 @@ returns-clause-answers c =
       presence = c.fill_presence-told.ensures.stand;
       items = subst (StandForEach (stage_of c.args.query.now c.args.columns.now)) (sym same) c.fill_all.ensures.stand;
       masks = c.fill_all.ensures.masks;
+      seen = c.take.ensures;
       kept = subst (HaveKeptParts c.args.columns.now c.args.query.now.items) (sym same_kept) c.fill_all.ensures.kept;
     }

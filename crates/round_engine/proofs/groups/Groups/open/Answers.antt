@@ -3,6 +3,7 @@ use Rattle.query_model.specs.Answers.{groups_of}
 use Rattle.round_engine.specs.CellAnswers.{HaveCells, TellSingle}
 use Rattle.round_engine.specs.Engines.{stage_of}
 use Rattle.round_engine.specs.OneCell.{HoldMasks}
+use Rattle.round_engine.specs.SeenRows.{HoldSeen}
 use Rattle.round_engine.proofs.CellKept.{opened_cells, written}
 use Rattle.round_engine.proofs.CellRows.{cells_fit}
 use Rattle.round_engine.proofs.groups.Groups.open.Goals as goal
@@ -40,5 +41,6 @@ returns c =
       presence = record { kind = c.in_ok-presence.ensures.kind_is; room = c.in_ok-presence.ensures.room_is ∙ most };
       items = subst (λ n. HaveCells c.args.query.now.items n c.in_ok-runnings.runnings.items) most c.in_ok-runnings.ensures;
       masks = subst (λ n. HoldMasks n c.in_ok-masks.masks) c.rows.ensures.rows c.in_ok-masks.ensures;
+      seen = subst (λ n. HoldSeen n c.in_ok-seen.seen) c.rows-2.ensures.rows c.in_ok-seen.ensures;
       kept = c.in_ok-kept.ensures;
     }

@@ -54,7 +54,7 @@ returns-then-is_group c =
     (subst (IsParted (stepped stood.before c.args.column c.args.plane.now) (refined c.args.self.now.cells c.args.column c.args.plane.now)) (sym same)
     (parted_more stood.before c.args.column c.args.plane.now stood.open_stage c.refining_stands.ensures c.args.self.now.cells single.items c.tell_single.new.single stood.answered.parted long is
     (subst (λ (cells : RowCells). TellSingle cells.parts c.tell_single.new.single) c.part_cells.ensures c.tell_single.ensures.told) (omega (arith, value, room)))))
-    refl refl refl refl
+    refl refl refl refl refl
     (parts_stay stood.before c.args.column c.args.plane.now c.args.self.now.kept.items stood.open_stage (subst IsOpenStage stood.read c.requires.open_stage) (c.requires.rows ∙ ap (λ (s : Stage). s.frame.rows) stood.read) stood.answered.kept)
 
 pub returns-else-is_group : goal.returns-else-is_group
@@ -63,5 +63,5 @@ returns-else-is_group c =
     let other = subst (λ (s : Stage). is_group (groups_of s.query.shape) c.args.column ≡ false) stood.read (sym c.is_group.ensures ∙ c.if-is_group.false) in
     parted_holds stood.before _ c.args.column c.args.plane.now c.args.self.now c.args.self.now stood.read stood.answered
     (parted_still stood.before c.args.column c.args.plane.now stood.open_stage c.others_leave_cells.ensures c.args.self.now.cells c.args.self.now.single.items stood.answered.parted other)
-    refl refl refl refl
+    refl refl refl refl refl
     (parts_stay stood.before c.args.column c.args.plane.now c.args.self.now.kept.items stood.open_stage (subst IsOpenStage stood.read c.requires.open_stage) (c.requires.rows ∙ ap (λ (s : Stage). s.frame.rows) stood.read) stood.answered.kept)

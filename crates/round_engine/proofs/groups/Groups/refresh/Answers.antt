@@ -6,8 +6,9 @@ use Rattle.round_engine.specs.KeptCells.{HaveKeptParts}
 use Rattle.round_engine.specs.KeptSums.{columns_of}
 use Rattle.round_engine.specs.Moves.{AreMoved}
 use Rattle.round_engine.specs.ReadCells.{WereEach}
+use Rattle.round_engine.specs.SeenRows.{WereRows}
 use Rattle.round_engine.specs.Stages.{IsGrouped, IsOpenStage, Stage}
-use Rattle.round_engine.proofs.CellKept.{moved_for_others, parted_still, rows_stay, stand_still, written}
+use Rattle.round_engine.proofs.CellKept.{moved_for_others, parted_still, rows_stay, seen_still, stand_still, written}
 use Rattle.round_engine.proofs.KeptCells.{parts_stay}
 use Rattle.round_engine.proofs.groups.Groups.refresh.Goals as goal
 
@@ -61,5 +62,7 @@ returns-else-moves_rows-clause-answers c =
           (stand_still stood.before c.args.column c.args.plane.now every_row c.args.self.now.presence stay refl stood.answered.presence);
       items = subst (StandForEach (stage_of c.args.query.now c.args.columns.now)) (sym same) c.read_each.ensures.stand;
       masks = c.read_each.ensures.masks;
+      seen = subst (λ (s : Stage). WereRows s c.args.self.now.seen.must c.args.self.now.seen.may) (sym stood.read)
+          (seen_still stood.before c.args.column c.args.plane.now c.args.self.now.seen stay stood.answered.seen);
       kept = subst (HaveKeptParts c.args.columns.now c.args.query.now.items) (sym same_kept) c.read_each.ensures.kept;
     }

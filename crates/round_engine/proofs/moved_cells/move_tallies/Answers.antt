@@ -10,10 +10,9 @@ use Rattle.query_model.specs.Groups.{pairs_in_cell_below}
 use Rattle.round_engine.specs.Cells.{cells_in}
 use Rattle.round_engine.specs.Engines.{stage_of}
 use Rattle.query_model.specs.Queries.{Aggregate}
-use Rattle.query_model.specs.Validity.{IsSumKind}
 use Rattle.round_engine.proofs.MovedCells.{moved_for}
 use Rattle.round_engine.proofs.OneCell.{ordered_cell}
-use Rattle.round_engine.proofs.moved_cells.move_sums.Goals as goal
+use Rattle.round_engine.proofs.moved_cells.move_tallies.Goals as goal
 
 pub loop-cell-preserved : goal.loop-cell-preserved
 loop-cell-preserved c =
@@ -44,7 +43,7 @@ loop-cell-preserved c =
                 same_Some _ _ (sym c.tally.ensures ∙ inv.rest cell (omega arith) ∙ was.kept) ∙ ap (λ kind. tally_of kind pairs_then) c.requires.room.kind in
                 let as_read = ap (λ n. tally_of item.kind (pairs_in_cell_below before.query item cell before.frame before.known n)) rows in
                 let kind_is : c.item.inside.kind ≡ item.kind = ap (λ (i : Aggregate). i.kind) c.item.view_is in
-                let told = subst (λ kind. c.in-Some.tally ≡ tally_of kind (pairs_now cell)) kind_is (c.in-Some.ensures bits at (pairs_in_cell_below before.query item cell before.frame before.known columns.frame.rows) (pairs_now cell) (old ∙ as_read ∙ ap (λ kind. tally_of kind (pairs_in_cell_below before.query item cell before.frame before.known columns.frame.rows)) (sym kind_is)) (moved_for c.item.inside.kind (subst IsSumKind (sym kind_is) c.requires.kind) _ _ _ (read.each cell bits at))) in
+                let told = subst (λ kind. c.in-Some.tally ≡ tally_of kind (pairs_now cell)) kind_is (c.in-Some.ensures bits at (pairs_in_cell_below before.query item cell before.frame before.known columns.frame.rows) (pairs_now cell) (old ∙ as_read ∙ ap (λ kind. tally_of kind (pairs_in_cell_below before.query item cell before.frame before.known columns.frame.rows)) (sym kind_is)) (moved_for c.item.inside.kind _ _ _ (read.each cell bits at))) in
                 subst (λ j. StandsFor new j (pairs_now j)) (sym here) (record {
                   kept = set.kept ∙ ap Some told ∙ ap (λ kind. Some (tally_of kind (pairs_now cell))) (sym (set.kind ∙ inv.room.kind));
                   ordered = ordered_cell query item columns c.requires.open_stage.knowledge cell;

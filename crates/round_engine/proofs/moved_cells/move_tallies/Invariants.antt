@@ -6,7 +6,7 @@ use Rattle.round_engine.specs.Cells.{cells_in}
 use Rattle.round_engine.specs.Engines.{stage_of}
 use Rattle.round_engine.specs.MovedCells.{AreMovedBelow}
 use Rattle.round_engine.specs.Stages.{Stage}
-use Rattle.round_engine.proofs.moved_cells.move_sums.Given as goal
+use Rattle.round_engine.proofs.moved_cells.move_tallies.Given as goal
 
 abbrev pub invariant-loop-cell : goal.invariant-loop-cell
 invariant-loop-cell l = record {
