@@ -1,22 +1,21 @@
-use Rattle.std.proofs.Common.{◌≡◌, ℕ, ◌-◌, ◌^◌, ◌==◌, ◌+◌, ◌*◌, ◌%◌, ◌<◌, ◌&&◌, min, get_or, slice_get, Some, refl, ap, sym, ◌∙◌, subst, arith, not, false, IsTrue, ℤ, to_z, of_z}
+use Rattle.std.proofs.Common.{◌≡◌, ℕ, ◌^◌, ◌==◌, ◌+◌, ◌*◌, ◌%◌, ◌<◌, ◌&&◌, get_or, slice_get, Some, refl, ap, sym, ◌∙◌, subst, arith, not, false, ℤ, to_z, of_z}
 use Rattle.std.proofs.lemmas.Option.{get_or_from_slice_get, slice_get-get_or}
 use Rattle.std.specs.Int.{bit_not, trailing_zeros, w64}
 use Rattle.std.specs.Int.Bits.{bit_and, bit_or}
 use Rattle.std.proofs.lemmas.Nat.Bits.{bit_at-trailing_zeros}
 use Rattle.known_column.specs.Columns.{count_in_block}
-use Rattle.plane_kernels.specs.Rows.{digit_at}
 use Rattle.aggregates.specs.SumsOfCells.{FitsCell}
 use Rattle.kleene_filter.specs.Filters.{is_certain, is_possible, truth_at, truths_under}
 use Rattle.kleene_filter.proofs.WordBits.{both_bits}
 use Rattle.query_model.specs.Queries.{Aggregate, term_of}
 use Rattle.query_model.specs.Knowledge.{ranges_of}
-use Rattle.query_model.specs.Truths.{may_be_null, may_be_number, null_of, span_of}
+use Rattle.query_model.specs.Truths.{may_be_null, null_of, span_of}
 use Rattle.query_model.specs.Validity.{declared_ranges}
 use Rattle.row_values.specs.BlockValues.{AreShortValues}
 use Rattle.row_values.specs.declared.short.ShortInterval.{ShortInterval}
 use Rattle.round_engine.specs.Engines.{stage_of}
 use Rattle.round_engine.specs.KeptSums.{columns_of}
-use Rattle.round_engine.specs.MovedCells.{AreMovedBelow, IsRowMoved}
+use Rattle.round_engine.specs.MovedCells.{IsRowMoved}
 use Rattle.round_engine.specs.Stages.{Stage}
 use Rattle.round_engine.proofs.CellKept.{parted_rows}
 use Rattle.round_engine.proofs.CellPairs.{filter_words}
