@@ -1,7 +1,7 @@
 -- A row more in each cell before and behind a plane that the condition reads: what it gives is as it was, surely counts now, or is gone.
-use Rattle.std.proofs.Common.{◌≡◌, ◌≢◌, ℕ, zero, suc, ◌+◌, ◌-◌, ◌*◌, ◌%◌, ◌^◌, ◌||◌, ◌==◌, IsTrue, ◌<◌, ◌≤◌, Bool, true, false, not, ◌&&◌, List, [], ◌∷◌, ◌++◌, length, get_or, slice_get, min, Some, None, inl, inr, refl, sym, ap, subst, ◌∙◌, arith, if◌then◌else◌, append-nil}
+use Rattle.std.proofs.Common.{◌≡◌, ◌≢◌, ℕ, ◌+◌, ◌*◌, ◌%◌, ◌^◌, ◌||◌, IsTrue, ◌<◌, Bool, true, false, not, ◌&&◌, List, [], ◌∷◌, ◌++◌, length, get_or, slice_get, Some, None, inl, inr, refl, sym, ap, subst, ◌∙◌, arith, if◌then◌else◌, append-nil}
 use Rattle.std.specs.declared.option.Option.{Option}
-use Rattle.std.proofs.lemmas.Bool.{cases_eq, cases_lt, false≢true, or_parts}
+use Rattle.std.proofs.lemmas.Bool.{cases_eq, false≢true, or_parts}
 use Rattle.std.proofs.lemmas.Option.{slice_get-get_or, same_Some}
 use Rattle.interval_calc.specs.Intervals.{Interval}
 use Rattle.query_model.specs.declared.bounds.Nullity.{Nullity}
@@ -21,7 +21,7 @@ use Rattle.query_model.specs.Meaning.{columns_of}
 use Rattle.query_model.proofs.Nesting.{Refines, ranges_narrower, taken_is_knowledge, truth_refines}
 use Rattle.query_model.proofs.Queries.{ranges_ordered}
 use Rattle.kleene_filter.specs.Filters.{is_certain, is_possible, stands_in}
-use Rattle.kleene_filter.proofs.WordBits.{both_bits, digit-or, digit-zero}
+use Rattle.kleene_filter.proofs.WordBits.{both_bits, digit-or}
 use Rattle.known_column.specs.Columns.{count_in_block}
 use Rattle.aggregates.specs.SumsOfCells.{FitsCell}
 use Rattle.digit_sums.specs.declared.moves.RowMoves.{RowMoves}
@@ -31,15 +31,14 @@ use Rattle.round_engine.specs.CellAnswers.{pair_in_own_cell}
 use Rattle.round_engine.specs.Cells.{cells_in}
 use Rattle.round_engine.specs.MovedCells.{AreMovedBelow, IsMovedFrom, IsRowMoved, moved_by}
 use Rattle.round_engine.specs.Stages.{IsOpenStage, Stage, stepped}
-use Rattle.std.specs.Int.{bit_at, bit_not, trailing_zeros, w64}
+use Rattle.std.specs.Int.{bit_not, w64}
 use Rattle.std.specs.Int.Bits.{bit_and, bit_or}
-use Rattle.std.proofs.lemmas.Nat.Bits.{bit_at-lt, bit_at-trailing_zeros, bit_at_above, bit_at_not}
 use Rattle.plane_kernels.specs.Rows.{digit_at}
 use Rattle.row_groups.specs.Partition.{is_group}
 use Rattle.round_engine.proofs.CellKept.{cell_still, keys_still}
 use Rattle.round_engine.proofs.Unmoved.{pair_by_unmoved}
-use Rattle.round_engine.proofs.ReadBlocks.{digit-first, first_low}
-use Rattle.round_engine.proofs.SetBits.{cleared_here, cleared_other}
+use Rattle.round_engine.proofs.ReadBlocks.{digit-first}
+use Rattle.round_engine.proofs.SetBits.{PassesOver, digit-not}
 use Rattle.round_engine.proofs.CellPairs.{pairs_elsewhere, pairs_with_row, pairs_without_row}
 
 -- ---- a row
@@ -282,34 +281,10 @@ stage_stays stage item before is row below few =
     subst (StaysRow before item row) (sym is.read)
     (row_stays before item row is.column is.bits is.open_stage is.legal is.cells_stay is.values_stay (subst (λ (s : Stage). row < s.frame.rows) is.read below) few)
 
--- through a block of whose rows none moved
-pub stage_past : (stage : Stage) (item : Aggregate) (before : Stage) → IsMovedFrom stage item before → PairsAreFew → (counted : CountedMoves) (from n : ℕ) → from + n ≤ stage.frame.rows →
-    ((r : ℕ) → r < n → (is_certain (now_at before item (from + r) stage) && not (is_certain (was before item (from + r)))) ≡ false) →
-    ((r : ℕ) → r < n → (is_possible (was before item (from + r)) && not (is_possible (now_at before item (from + r) stage))) ≡ false) →
-    AreMovedBelow before stage item from counted → AreMovedBelow before stage item (from + n) counted
-stage_past stage item before is few counted from zero most came left moved = (let same : from ≡ from + 0 = omega arith in subst (λ k. AreMovedBelow before stage item k counted) same moved)
-stage_past stage item before is few counted from (suc n) most came left moved =
-    let next : from + n + 1 ≡ from + suc n = omega arith in
-    let earlier = stage_past stage item before is few counted from n (omega (arith, most)) (λ r below. came r (omega (arith, below))) (λ r below. left r (omega (arith, below))) moved in
-    subst (λ k. AreMovedBelow before stage item k counted) next
-    (stage_stays stage item before is (from + n) (omega (arith, most)) few counted (came n (omega arith)) (left n (omega arith)) earlier)
-
 -- ---- the words of a block
 
-flip : (b : ℕ) → b < 2 → ((1 - b) == 1) ≡ not (b == 1)
-flip zero h = refl
-flip (suc zero) h = refl
-flip (suc (suc b)) h = absurd (omega (arith, h))
-
 pub digit_not : (n r : ℕ) (b : Bool) → n < 18446744073709551616 → r < 64 → digit_at r n ≡ b → digit_at r (bit_not w64 n) ≡ not b
-digit_not n r b fits below is = ap (λ k. k == 1) (bit_at_not w64 n r fits below) ∙ flip (bit_at n r) (bit_at-lt n r) ∙ ap not is
-
--- a bit of the first ones is at a row below their number
-pub first_inside : (first word n r : ℕ) → first ≡ word % 2 ^ n → digit_at r first ≡ true → r < n
-first_inside first word n r is bit = elim (cases_lt r n) [
-  | inl low ↦ low
-  | inr high ↦ absurd (false≢true (sym (ap (λ k. k == 1) (bit_at_above first n r (first_low first word n is) high)) ∙ bit))
-]
+digit_not n r b fits below is = digit-not r n fits below ∙ ap not is
 
 -- ---- the rows of a block that moved, from the lowest on
 
@@ -337,67 +312,13 @@ words_tell before stage item number may must was_may was_must moved may_fits mus
     let left_is = both_bits r was_may (bit_not w64 may) _ _ (may_was r below) (digit_not may r _ may_fits (omega (arith, below)) (may_bit r below)) in
     (sym came_is ∙ (or_parts (digit_at r came) (digit_at r left) neither).0, sym left_is ∙ (or_parts (digit_at r came) (digit_at r left) neither).1)
 
--- the rows below some one are counted, and what is left of the word has the others
-pub record IsCountedTo (before stage : Stage) (item : Aggregate) (number word rest : ℕ) (counted : CountedMoves) : Type 0 where
-  pub next : ℕ
-  pub most : next ≤ count_in_block number stage.frame.rows
-  pub below : (r : ℕ) → r < next → digit_at r rest ≡ false
-  pub above : (r : ℕ) → next ≤ r → digit_at r rest ≡ digit_at r word
-  pub moved : AreMovedBelow before stage item (64 * number + next) counted
-
-pub counted_start : (before stage : Stage) (item : Aggregate) (number word : ℕ) (counted : CountedMoves) → AreMovedBelow before stage item (64 * number) counted → IsCountedTo before stage item number word word counted
-counted_start before stage item number word counted moved = record {
-  next = 0;
-  most = omega arith;
-  below = λ r low. absurd (omega (arith, low));
-  above = λ r high. refl;
-  moved = (let same : 64 * number ≡ 64 * number + 0 = omega arith in subst (λ n. AreMovedBelow before stage item n counted) same moved);
-}
-
-module _ (stage : Stage) (item : Aggregate) (before : Stage) (is : IsMovedFrom stage item before) (few : PairsAreFew) (number word rest : ℕ) (told : TellsMoved before stage item number word) (within : 64 * number < stage.frame.rows) where
-  -- through the rows up to one, none of which has a bit
-  to_row : (counted : CountedMoves) (to : IsCountedTo before stage item number word rest counted) (row : ℕ) → to.next ≤ row → row ≤ count_in_block number stage.frame.rows →
-      ((r : ℕ) → r < row → digit_at r rest ≡ false) → AreMovedBelow before stage item (64 * number + row) counted
-  to_row counted to row after fits none =
-      let end : 64 * number + to.next + (row - to.next) ≡ 64 * number + row = omega (arith, after) in
-      let still = λ (r : ℕ) (low : r < row - to.next). told (to.next + r) (omega (arith, low, fits, after)) (sym (to.above (to.next + r) (omega arith)) ∙ none (to.next + r) (omega (arith, low, after))) in
-      let place = λ (r : ℕ). (let same : 64 * number + (to.next + r) ≡ 64 * number + to.next + r = omega arith in same) in
-      subst (λ n. AreMovedBelow before stage item n counted) end
-      (stage_past stage item before is few counted (64 * number + to.next) (row - to.next) (omega (arith, after, fits, within))
-      (λ r low. subst (λ k. (is_certain (now_at before item k stage) && not (is_certain (was before item k))) ≡ false) (place r) (still r low).0)
-      (λ r low. subst (λ k. (is_possible (was before item k) && not (is_possible (now_at before item k stage))) ≡ false) (place r) (still r low).1)
-      to.moved)
-
-  -- with the row of the lowest bit
-  pub counted_more : (old new : CountedMoves) → 0 < rest → rest < 18446744073709551616 → trailing_zeros w64 rest < count_in_block number stage.frame.rows →
-      (AreMovedBelow before stage item (64 * number + trailing_zeros w64 rest) old → AreMovedBelow before stage item (64 * number + trailing_zeros w64 rest + 1) new) →
-      IsCountedTo before stage item number word rest old → IsCountedTo before stage item number word (bit_and rest (rest - 1)) new
-  counted_more old new some fits inside follow to =
-      let row = trailing_zeros w64 rest in
-      let lowest = bit_at-trailing_zeros w64 rest some fits in
-      let after : to.next ≤ row = elim (cases_lt row to.next) [
-        | inl low ↦ absurd (false≢true (sym (to.below row low) ∙ ap (λ b. b == 1) lowest.1))
-        | inr high ↦ high
-      ] in
-      let none : (r : ℕ) → r < row → digit_at r rest ≡ false = λ r low. ap (λ b. b == 1) (lowest.2 r low) in
-      let end : 64 * number + row + 1 ≡ 64 * number + (row + 1) = omega arith in
-      record {
-        next = row + 1;
-        most = omega (arith, inside);
-        below = λ r low. elim (cases_eq r row) [
-          | inl here ↦ ap (λ k. digit_at k (bit_and rest (rest - 1))) here ∙ ap (λ b. b == 1) (cleared_here rest some fits)
-          | inr other ↦ ap (λ b. b == 1) (cleared_other rest some fits r other) ∙ none r (omega (arith, low, other))
-        ];
-        above = λ r high. ap (λ b. b == 1) (cleared_other rest some fits r (λ e. absurd (omega (arith, e, high)))) ∙ to.above r (omega (arith, high, after));
-        moved = subst (λ n. AreMovedBelow before stage item n new) end (follow (to_row old to row after (omega (arith, inside)) none));
-      }
-
-  -- where no bit is left, all rows of the block are counted
-  pub counted_whole : (counted : CountedMoves) → rest ≡ 0 → IsCountedTo before stage item number word rest counted → AreMovedBelow before stage item (min (64 * number + 64) stage.frame.rows) counted
-  counted_whole counted gone to =
-      let end : 64 * number + count_in_block number stage.frame.rows ≡ min (64 * number + 64) stage.frame.rows = omega (arith, within) in
-      subst (λ n. AreMovedBelow before stage item n counted) end
-      (to_row counted to (count_in_block number stage.frame.rows) to.most (omega arith) (λ r low. ap (digit_at r) gone ∙ digit-zero r))
+-- where nothing moved, a row may be passed over
+pub moved_passes : (stage : Stage) (item : Aggregate) (before : Stage) → IsMovedFrom stage item before → PairsAreFew → (number word : ℕ) → TellsMoved before stage item number word → (counted : CountedMoves) →
+    PassesOver (count_in_block number stage.frame.rows) word (λ r. AreMovedBelow before stage item (64 * number + r) counted)
+moved_passes stage item before is few number word told counted r below none moved =
+    let next : 64 * number + r + 1 ≡ 64 * number + (r + 1) = omega arith in
+    let still = told r below none in
+    subst (λ n. AreMovedBelow before stage item n counted) next (stage_stays stage item before is (64 * number + r) (omega (arith, below)) few counted still.0 still.1 moved)
 
 -- each kind asks for no more than all that moved rows change
 pub moved_for : (kind : ItemKind) → (old new : List Pair) (moves : RowMoves) → AreMoved old new moves → AreMovedFor kind old new moves

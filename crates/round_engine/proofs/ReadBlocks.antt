@@ -1,48 +1,40 @@
 -- A block of rows of which the next plane is read: the words that tell its rows, and what its rows add to the counts of their cells.
-use Rattle.std.proofs.Common.{◌≡◌, ◌≢◌, ℕ, zero, suc, ◌+◌, ◌*◌, ◌%◌, ◌^◌, ◌<◌, ◌≤◌, ◌-◌, ◌==◌, ◌&&◌, min, Bool, true, false, cond, List, length, get_or, map, take, drop, slice_get, Some, inl, inr, refl, ap, sym, subst, ◌∙◌, arith}
+use Rattle.std.proofs.Common.{◌≡◌, ◌≢◌, ℕ, ◌+◌, ◌*◌, ◌%◌, ◌^◌, ◌<◌, ◌≤◌, ◌-◌, ◌==◌, ◌&&◌, ◌||◌, not, unsigned_abs, Bool, true, false, cond, IsTrue, List, length, get_or, slice_get, Some, inl, inr, refl, ap, sym, subst, ◌∙◌, arith}
+use Rattle.std.specs.Int.{bit_not, w64}
 use Rattle.std.specs.Int.Bits.{bit_and, bit_or, mask_lt}
-use Rattle.std.specs.List.{range_with_len}
-use Rattle.std.proofs.lemmas.Bool.{cases_eq}
-use Rattle.std.proofs.lemmas.List.{get_or-map, length-map}
-use Rattle.std.proofs.lemmas.List.FromFn.{get_or-map-range_with_len}
-use Rattle.std.proofs.lemmas.Nat.{and_le_l, and_mask, le_or_l, le_or_r, or_lt}
+use Rattle.std.proofs.lemmas.Bool.{cases_eq, false≢true}
+use Rattle.std.proofs.lemmas.Nat.{and_le_l, and_mask}
+use Rattle.std.proofs.Math.Nat.{pow-le-pow_right}
 use Rattle.std.proofs.lemmas.Nat.Bits.{bit_at_ones}
-use Rattle.std.proofs.lemmas.Option.{same_Some, slice_get-get_or, slice_get_within}
+use Rattle.std.proofs.lemmas.Option.{get_or_from_slice_get, same_Some, slice_get-get_or}
 use Rattle.digit_sums.specs.declared.ends.DigitEnds.{DigitEnds}
 use Rattle.digit_sums.specs.declared.ones.RowBits.{RowBits}
 use Rattle.digit_sums.specs.Digits.{AreEndsOf}
-use Rattle.digit_sums.specs.Ones.{AreRead, CountedBits}
-use Rattle.kleene_filter.specs.Filters.{is_possible, truths_under}
-use Rattle.kleene_filter.proofs.Parting.{mask_bit}
-use Rattle.kleene_filter.proofs.WordBits.{both_bits, digit-and}
-use Rattle.known_column.specs.Columns.{KnownColumn, count_in_block, is_at_top, rows_of_column}
-use Rattle.known_column.specs.KnownTables.{KnownTable}
-use Rattle.plane_kernels.specs.Rows.{bits_of, digit_at}
+use Rattle.digit_sums.specs.Ones.{AreRead, CountedBits, with_row}
+use Rattle.kleene_filter.specs.Filters.{is_certain, is_possible}
+use Rattle.kleene_filter.proofs.WordBits.{digit-and, digit-or}
+use Rattle.known_column.specs.Columns.{KnownColumn, count_in_block, missing_at}
+use Rattle.plane_kernels.specs.Rows.{digit_at}
+use Rattle.query_model.specs.declared.bounds.Nullity.TheVariants.{Never}
 use Rattle.query_model.specs.declared.bounds.Truth.{Truth}
-use Rattle.query_model.specs.Answers.{groups_of}
-use Rattle.query_model.specs.Groups.{cell_of, pairs_in_cell_below}
+use Rattle.query_model.specs.declared.bounds.Truth.TheVariants.{False, Unknown, True}
+use Rattle.query_model.specs.Groups.{pairs_in_cell_below}
 use Rattle.query_model.specs.Knowledge.{IsKnowledge, ranges_of}
 use Rattle.query_model.specs.Laws.{PairsAreFew}
-use Rattle.query_model.specs.Queries.{Aggregate, Query}
-use Rattle.query_model.specs.Truths.{truth_of}
-use Rattle.row_groups.specs.Partition.{AreCellsFrom, RowCells}
+use Rattle.query_model.specs.Queries.{Aggregate}
+use Rattle.query_model.specs.Truths.{may_be_number, null_of, span_of, truth_of}
+use Rattle.row_groups.specs.Partition.{AreCellsFrom, CellsTellKeys, RowCells}
+use Rattle.round_engine.specs.declared.read_cells.BlockWords.{BlockWords}
 use Rattle.round_engine.specs.CellAnswers.{IsParted}
-use Rattle.round_engine.specs.Cells.{cells_in}
 use Rattle.round_engine.specs.DigitCells.{IsOverColumn}
 use Rattle.round_engine.specs.KeptSums.{columns_of}
-use Rattle.round_engine.specs.ReadCells.{AreReadBelow, AreRowsAdded, IsBefore, rows_in_cell, with_rows}
+use Rattle.round_engine.specs.ReadCells.{AreBlockCells, AreBlockWords, AreReadBelow, IsBefore, IsRowAdded}
 use Rattle.round_engine.specs.Stages.{IsOpenStage, Stage}
 use Rattle.round_engine.proofs.CellKept.{parted_rows}
-use Rattle.round_engine.proofs.CellRows.{cell_counted, cell_is}
-use Rattle.round_engine.proofs.FilledBlocks.{filter_bit}
-use Rattle.round_engine.proofs.ReadRows.{stage_elsewhere, stage_row}
-use Rattle.round_engine.proofs.SetBits.{few_rows, no_bits, no_later, no_rows, none_added, other_row, own_row, same_counts}
-
--- the words of a block: its rows at which the condition may hold, those with the bit of 1, and those at top
-pub record AreBlockWords (query : Query) (columns : KnownTable) (known : KnownColumn) (bits : List Bool) (number may one top : ℕ) : Type 0 where
-  pub may_bit : (r : ℕ) → r < count_in_block number columns.frame.rows → digit_at r may ≡ is_possible (truth_of query.pred (ranges_of columns.frame columns.known (64 * number + r)))
-  pub one_bit : (r : ℕ) → r < count_in_block number columns.frame.rows → digit_at r one ≡ get_or bits (64 * number + r) false
-  pub top_bit : (r : ℕ) → r < count_in_block number columns.frame.rows → digit_at r top ≡ is_at_top known.ends known.known.read (get_or known.known.prefixes (64 * number + r) 0)
+use Rattle.round_engine.proofs.CellRows.{cell_counted, cell_is, cell_single}
+use Rattle.round_engine.proofs.DigitCells.{never_missing}
+use Rattle.round_engine.proofs.ReadRows.{stage_elsewhere, stage_row, uncounted}
+use Rattle.round_engine.proofs.SetBits.{digit-not}
 
 -- the first bits of a word
 pub first_low : (first word n : ℕ) → first ≡ word % 2 ^ n → first < 2 ^ n
@@ -56,127 +48,185 @@ digit-first n word r below =
     kept true = refl
     kept false = refl
 
-pub block_words : (query : Query) (columns : KnownTable) (known : KnownColumn) (bits mask marks : List Bool) (truths : List Truth) (number may first one top : ℕ) → rows_of_column known ≡ columns.frame.rows → length bits ≡ columns.frame.rows →
-    mask ≡ map is_possible truths → truths ≡ truths_under query.pred columns → bits_of (min 64 (length mask - 64 * number)) may ≡ take 64 (drop (64 * number) mask) → first ≡ may % 2 ^ count_in_block number columns.frame.rows →
-    bits_of (min 64 (length bits - 64 * number)) one ≡ take 64 (drop (64 * number) bits) →
-    marks ≡ map (is_at_top known.ends known.known.read) known.known.prefixes → bits_of (min 64 (length marks - 64 * number)) top ≡ take 64 (drop (64 * number) marks) →
-    AreBlockWords query columns known bits number first one top
-block_words query columns known bits mask marks truths number may first one top rows longs is judged may_is first_is one_is marked top_is =
-    let long : length marks ≡ columns.frame.rows = ap length marked ∙ length-map known.known.prefixes (is_at_top known.ends known.known.read) ∙ rows in
-    record {
-      may_bit = λ r below. ap (digit_at r) first_is ∙ digit-first (count_in_block number columns.frame.rows) may r below ∙ filter_bit is_possible mask truths query.pred columns may number r is judged may_is below;
-      one_bit = λ r below. mask_bit bits one number r one_is (omega (arith, below)) (omega (arith, below, longs));
-      top_bit = λ r below. mask_bit marks top number r top_is (omega (arith, below)) (omega (arith, below, long)) ∙ ap (λ l. get_or l (64 * number + r) false) marked
-          ∙ get_or-map (is_at_top known.ends known.known.read) known.known.prefixes (64 * number + r) 0 false (omega (arith, below, rows));
-    }
+-- ---- the words of a block and its rows in their cells
 
--- ---- the rows of a block in their cells
+quiet_bits : (must one top : Bool) → (must && (one || top)) ≡ false → ((must && one) ≡ false) × ((must && top) ≡ false)
+quiet_bits false one top none = (refl, refl)
+quiet_bits true true top none = absurd (false≢true (sym none))
+quiet_bits true false top none = (refl, none)
 
 -- the cells of a block, as they were read, are those of its rows
-pub record IsCellOf (stage : Stage) (row cell : ℕ) : Type 0 where
-  pub is : cell ≡ cell_of stage.known (groups_of stage.query.shape) row
-  pub inside : cell < cells_in stage
+pub block_cells : (stage : Stage) (cells : RowCells) (single : List Bool) → IsParted stage cells single → IsKnowledge stage.frame stage.known → CellsTellKeys → (number : ℕ) (block : List ℕ) → AreCellsFrom (64 * number) cells.cells block →
+    AreBlockCells stage single number block
+block_cells stage cells single parted knowledge tell number block read = record {
+  is = λ r below. cell_is stage cells single parted knowledge (64 * number + r) (within r below) (get_or block r 0) (there r below);
+  inside = λ r below. cell_counted stage cells single parted knowledge (64 * number + r) (within r below) (get_or block r 0) (there r below);
+  alone = λ r below. get_or_from_slice_get single (get_or block r 0) _ false (cell_single stage cells single parted knowledge (64 * number + r) (within r below) tell (get_or block r 0) (there r below));
+}
+  where
+    within : (r : ℕ) → r < count_in_block number stage.frame.rows → 64 * number + r < stage.frame.rows
+    within r below = omega (arith, below)
 
-pub block_cells : (stage : Stage) (cells : RowCells) (single : List Bool) → IsParted stage cells single → IsKnowledge stage.frame stage.known → (number : ℕ) (block : List ℕ) → AreCellsFrom (64 * number) cells.cells block →
-    (r : ℕ) → r < count_in_block number stage.frame.rows → IsCellOf stage (64 * number + r) (get_or block r 0)
-block_cells stage cells single parted knowledge number block read r below =
-    let within : 64 * number + r < stage.frame.rows = omega (arith, below) in
-    let there = read r (omega (arith, below)) (omega (arith, within, parted_rows stage cells single parted)) in
-    record {
-      is = cell_is stage cells single parted knowledge (64 * number + r) within (get_or block r 0) there;
-      inside = cell_counted stage cells single parted knowledge (64 * number + r) within (get_or block r 0) there;
-    }
+    there : (r : ℕ) → r < count_in_block number stage.frame.rows → slice_get cells.cells (64 * number + r) ≡ Some (get_or block r 0)
+    there r below = read r (omega (arith, below)) (omega (arith, within r below, parted_rows stage cells single parted))
 
-module _ (stage : Stage) (item : Aggregate) (bits : List Bool) (before : Stage) (is : IsBefore stage item bits before) (now : IsOpenStage stage) (known : KnownColumn) (over : IsOverColumn item (columns_of stage) known) (ends : DigitEnds) (are : AreEndsOf known ends) (longs : length bits ≡ stage.frame.rows) (number may one top : ℕ) (words : AreBlockWords stage.query (columns_of stage) known bits number may one top) (fits : may < 2 ^ count_in_block number stage.frame.rows) (some : 64 * number < stage.frame.rows) where
-  abbrev count : ℕ
-  count = count_in_block number stage.frame.rows
+module _ (stage : Stage) (known : KnownColumn) (bits : List Bool) (number : ℕ) (words : BlockWords) (are : AreBlockWords stage known bits number words) where
+  abbrev pub sure_word : ℕ
+  sure_word = bit_and words.must (bit_or words.ones words.top)
 
-  abbrev ones : ℕ
-  ones = bit_and may one
+  abbrev pub unsure_word : ℕ
+  unsure_word = bit_and words.may (bit_not w64 words.must)
 
-  abbrev tops : ℕ
-  tops = bit_and may top
+  abbrev block_rows : ℕ
+  block_rows = count_in_block number stage.frame.rows
 
-  abbrev IsReadTo : ℕ → ℕ → RowBits → Type 0
-  IsReadTo cell n counted = AreRead ends (pairs_in_cell_below before.query item cell before.frame before.known n) (pairs_in_cell_below stage.query item cell stage.frame stage.known n) counted
+  must_word : words.must < 18446744073709551616
+  must_word =
+      let two : 1 ≤ 2 = omega arith in
+      let few : block_rows ≤ 64 = omega arith in
+      let most : 2 ^ block_rows ≤ 2 ^ 64 = pow-le-pow_right two few in
+      omega (arith, are.must_fits, most)
 
-  module _ (block : List ℕ) (own : (r : ℕ) → r < count → get_or block r 0 ≡ cell_of stage.known (groups_of stage.query.shape) (64 * number + r)) where
-    -- what the first rows of the block add to a cell
-    rows_read : (cell : ℕ) (counted : RowBits) → IsReadTo cell (64 * number) counted → (n : ℕ) → n ≤ count → IsReadTo cell (64 * number + n) (with_rows counted (rows_in_cell block ones n cell) (rows_in_cell block tops n cell))
-    rows_read cell counted read zero few =
-        let start : 64 * number ≡ 64 * number + 0 = omega arith in
-        let no_ones = no_rows block ones cell in
-        let no_tops = no_rows block tops cell in
-        subst (IsReadTo cell (64 * number + 0)) (same_counts counted.ones (counted.ones + rows_in_cell block ones 0 cell) counted.at_top (counted.at_top + rows_in_cell block tops 0 cell) (omega (arith, no_ones)) (omega (arith, no_tops)))
-        (subst (λ k. IsReadTo cell k counted) start read)
-    rows_read cell counted read (suc n) few =
-        let row : ℕ = 64 * number + n in
-        let so_far = rows_read cell counted read n (omega (arith, few)) in
-        let here : n < count = omega (arith, few) in
-        let within : row < stage.frame.rows = omega (arith, here) in
-        let next : row + 1 ≡ 64 * number + suc n = omega arith in
-        let next_row : suc n ≡ n + 1 = omega arith in
-        let passes : Bool = is_possible (truth_of stage.query.pred (ranges_of stage.frame stage.known row)) in
-        let bit : Bool = get_or bits row false in
-        let at_top : Bool = is_at_top known.ends known.known.read (get_or known.known.prefixes row 0) in
-        let earlier : RowBits = with_rows counted (rows_in_cell block ones n cell) (rows_in_cell block tops n cell) in
-        let later : (a b : ℕ) → earlier.ones + a ≡ counted.ones + rows_in_cell block ones (suc n) cell → earlier.at_top + b ≡ counted.at_top + rows_in_cell block tops (suc n) cell →
-        IsReadTo cell (row + 1) (record { ones = earlier.ones + a; at_top = earlier.at_top + b }) → IsReadTo cell (64 * number + suc n) (with_rows counted (rows_in_cell block ones (suc n) cell) (rows_in_cell block tops (suc n) cell)) =
-        λ a b same_ones same_tops told. subst (λ k. IsReadTo cell k (with_rows counted (rows_in_cell block ones (suc n) cell) (rows_in_cell block tops (suc n) cell))) next
-        (subst (IsReadTo cell (row + 1)) (same_counts (earlier.ones + a) (counted.ones + rows_in_cell block ones (suc n) cell) (earlier.at_top + b) (counted.at_top + rows_in_cell block tops (suc n) cell) same_ones same_tops) told) in
-        elim (cases_eq cell (cell_of stage.known (groups_of stage.query.shape) row)) [
-          | inl same ↦
-              (let mine : get_or block n 0 ≡ cell = own n here ∙ sym same in
-              let one_bit = both_bits n may one passes bit (words.may_bit n here) (words.one_bit n here) in
-              let top_bit = both_bits n may top passes at_top (words.may_bit n here) (words.top_bit n here) in
-              let ones_step = ap (λ k. rows_in_cell block ones k cell) next_row ∙ own_row block ones n cell (passes && bit) one_bit mine in
-              let tops_step = ap (λ k. rows_in_cell block tops k cell) next_row ∙ own_row block tops n cell (passes && at_top) top_bit mine in
-              later (cond (passes && bit) 1 0) (cond (passes && at_top) 1 0) (omega (arith, ones_step)) (omega (arith, tops_step))
-              (stage_row stage item bits before is now known over ends are longs row within passes at_top earlier refl refl cell same so_far))
-          | inr away ↦
-              (let not_mine : get_or block n 0 ≢ cell = λ e. away (sym e ∙ own n here) in
-              let ones_step = ap (λ k. rows_in_cell block ones k cell) next_row ∙ other_row block ones n cell not_mine in
-              let tops_step = ap (λ k. rows_in_cell block tops k cell) next_row ∙ other_row block tops n cell not_mine in
-              later 0 0 (omega (arith, ones_step)) (omega (arith, tops_step))
-              (subst (IsReadTo cell (row + 1)) (same_counts earlier.ones (earlier.ones + 0) earlier.at_top (earlier.at_top + 0) (omega arith) (omega arith))
-              (stage_elsewhere stage item bits before is now known over ends are longs row within cell earlier away so_far)))
-        ]
+  pub sure_fits : sure_word < 2 ^ block_rows
+  sure_fits = omega (arith, and_le_l words.must (bit_or words.ones words.top), are.must_fits)
 
-    -- all of them
-    pub block_read : PairsAreFew → (old new : CountedBits) → AreRowsAdded (rows_in_cell block ones 64) (rows_in_cell block tops 64) (rows_in_cell block (bit_or ones tops) 64) old new →
-        AreReadBelow before stage item ends (64 * number) old → AreReadBelow before stage item ends (64 * number + count) new
-    block_read pairs_few old new added read = record {
-      cells = added.count ∙ read.cells;
-      each = λ cell told there.
-          (let d : RowBits = record { ones = 0; at_top = 0 } in
-          let counted = get_or old.cells cell d in
-          let at_old : slice_get old.cells cell ≡ Some counted = slice_get-get_or old.cells cell d (omega (arith, slice_get_within new.cells cell told there, added.count)) in
-          let start = read.each cell counted at_old in
-          let few = (pairs_few before.query item before.frame before.known (64 * number)).in_cell cell in
-          let ones_few = start.few in
-          let tops_few = start.some in
-          let small = now.open_query.few_rows in
-          let all_rows : count + (64 - count) ≡ 64 = omega arith in
-          let whole : (word : ℕ) → word < 2 ^ count → rows_in_cell block word 64 cell ≡ rows_in_cell block word count cell =
-          λ word low. ap (λ k. rows_in_cell block word k cell) (sym all_rows) ∙ no_later block word cell count low (64 - count) in
-          let ones_low : ones < 2 ^ count = omega (arith, and_le_l may one, fits) in
-          let tops_low : tops < 2 ^ count = omega (arith, and_le_l may top, fits) in
-          let as_many : rows_in_cell block (bit_or ones tops) 64 cell ≤ count = omega (arith, whole (bit_or ones tops) (or_lt count ones tops ones_low tops_low), few_rows block (bit_or ones tops) count cell) in
-          let next = added.each cell counted (omega (arith, few, small, ones_few, as_many, some)) (omega (arith, few, small, tops_few, as_many, some)) at_old in
-          let is_told : with_rows counted (rows_in_cell block ones 64 cell) (rows_in_cell block tops 64 cell) ≡ told = same_Some _ told (sym next ∙ there) in
-          let shorter = same_counts (counted.ones + rows_in_cell block ones count cell) (counted.ones + rows_in_cell block ones 64 cell) (counted.at_top + rows_in_cell block tops count cell) (counted.at_top + rows_in_cell block tops 64 cell)
-          (ap (λ k. counted.ones + k) (sym (whole ones ones_low))) (ap (λ k. counted.at_top + k) (sym (whole tops tops_low))) in
-          subst (IsReadTo cell (64 * number + count)) (shorter ∙ is_told) (rows_read cell counted start count (omega arith)));
-    }
+  pub unsure_fits : unsure_word < 2 ^ block_rows
+  unsure_fits = omega (arith, and_le_l words.may (bit_not w64 words.must), are.may_fits)
 
-  -- where no row has a bit, the counts stay as they were
-  pub none_counted : PairsAreFew → bit_or ones tops ≡ 0 → (counts : CountedBits) → AreReadBelow before stage item ends (64 * number) counts → AreReadBelow before stage item ends (64 * number + count) counts
-  none_counted pairs_few none counts read =
-      let cell_at : ℕ → ℕ = λ r. cell_of stage.known (groups_of stage.query.shape) (64 * number + r) in
-      let block : List ℕ = map cell_at (range_with_len 0 64) in
-      let no_ones : ones ≡ 0 = omega (arith, le_or_l ones tops, none) in
-      let no_tops : tops ≡ 0 = omega (arith, le_or_r ones tops, none) in
-      block_read block (λ r below. get_or-map-range_with_len cell_at 0 64 r r 0 (omega (arith, below)) (omega arith)) pairs_few counts counts
-      (none_added (rows_in_cell block ones 64) (rows_in_cell block tops 64) (rows_in_cell block (bit_or ones tops) 64) counts
-      (λ cell. ap (λ n. rows_in_cell block n 64 cell) no_ones ∙ no_bits block cell) (λ cell. ap (λ n. rows_in_cell block n 64 cell) no_tops ∙ no_bits block cell))
-      read
+  unsure_bit : (r : ℕ) → r < block_rows → digit_at r unsure_word ≡ (digit_at r words.may && not (digit_at r words.must))
+  unsure_bit r below = digit-and r words.may (bit_not w64 words.must) ∙ ap (λ b. digit_at r words.may && b) (digit-not r words.must must_word (omega (arith, below)))
+
+  sure_bit : (r : ℕ) → digit_at r sure_word ≡ (digit_at r words.must && (digit_at r words.ones || digit_at r words.top))
+  sure_bit r = digit-and r words.must (bit_or words.ones words.top) ∙ ap (λ b. digit_at r words.must && b) (digit-or r words.ones words.top)
+
+  -- a row that adds nothing: it surely counts and has no bit and is not at top, or does not count
+  pub record IsQuiet (r : ℕ) : Type 0 where
+    pub ones : (digit_at r words.must && digit_at r words.ones) ≡ false
+    pub tops : (digit_at r words.must && digit_at r words.top) ≡ false
+    pub ends : (digit_at r words.may && not (digit_at r words.must)) ≡ false
+
+  pub quiet : (r : ℕ) → r < block_rows → digit_at r sure_word ≡ false → digit_at r unsure_word ≡ false → IsQuiet r
+  quiet r below sure unsure =
+      let parts = quiet_bits (digit_at r words.must) (digit_at r words.ones) (digit_at r words.top) (sym (sure_bit r) ∙ sure) in
+      record { ones = parts.0; tops = parts.1; ends = sym (unsure_bit r below) ∙ unsure }
+
+  -- a row of the first word surely counts, and one that surely counts may count
+  pub sure_there : (r : ℕ) → digit_at r sure_word ≡ true → digit_at r words.must ≡ true
+  sure_there r bit = first_of (digit_at r words.must) (digit_at r words.ones || digit_at r words.top) (sym (sure_bit r) ∙ bit)
+    where
+      first_of : (m o : Bool) → (m && o) ≡ true → m ≡ true
+      first_of true o h = refl
+      first_of false o h = h
+
+  pub may_there : (r : ℕ) → r < block_rows → digit_at r words.must ≡ true → digit_at r words.may ≡ true
+  may_there r below must = are.may_bit r below ∙ possible (truth_of stage.query.pred (ranges_of stage.frame stage.known (64 * number + r))) (sym (are.must_bit r below) ∙ must)
+    where
+      possible : (t : Truth) → is_certain t ≡ true → is_possible t ≡ true
+      possible False h = h
+      possible Unknown h = refl
+      possible True h = refl
+
+  pub unsure_there : (r : ℕ) → r < block_rows → digit_at r unsure_word ≡ true → digit_at r words.may ≡ true
+  unsure_there r below bit = first_of (digit_at r words.may) (not (digit_at r words.must)) (sym (unsure_bit r below) ∙ bit)
+    where
+      first_of : (m o : Bool) → (m && o) ≡ true → m ≡ true
+      first_of true o h = refl
+      first_of false o h = h
+
+-- a column that is never null gives a value at each row
+pub never_null : (stage : Stage) (item : Aggregate) (known : KnownColumn) → IsOverColumn item (columns_of stage) known → known.ends.nullable ≡ false → (row : ℕ) →
+    IsTrue (may_be_number (null_of item.arg (ranges_of stage.frame stage.known row)))
+never_null stage item known over plain row =
+    let none : null_of item.arg (ranges_of stage.frame stage.known row) ≡ Never =
+    ap (λ e. null_of e (ranges_of stage.frame stage.known row)) over.arg ∙ ap (λ (w : KnownColumn). missing_at w row) (sym over.is) ∙ never_missing known row plain in
+    subst (λ n. IsTrue (may_be_number n)) (sym none) refl
+
+swapped : (may must : Bool) (h : ℕ) → may ≡ true → cond (may && not must) h 0 ≡ cond must 0 h
+swapped true true h is = refl
+swapped true false h is = refl
+swapped false must h is = absurd (false≢true is)
+
+module _ (stage : Stage) (item : Aggregate) (bits : List Bool) (before : Stage) (is : IsBefore stage item bits before) (now : IsOpenStage stage) (known : KnownColumn) (over : IsOverColumn item (columns_of stage) known) (ends : DigitEnds) (are : AreEndsOf known ends) (single : List Bool) (longs : length bits ≡ stage.frame.rows) (number : ℕ) (words : BlockWords) (told : AreBlockWords stage known bits number words) (cells : List ℕ) (own : AreBlockCells stage single number cells) where
+  abbrev pub ReadTo : CountedBits → ℕ → Type 0
+  ReadTo counted r = AreReadBelow before stage item ends single (64 * number + r) counted
+
+  module _ (r : ℕ) (below : r < count_in_block number stage.frame.rows) where
+    abbrev row : ℕ
+    row = 64 * number + r
+
+    abbrev there : ℕ
+    there = get_or cells r 0
+
+    within : row < stage.frame.rows
+    within = omega (arith, below)
+
+    next : row + 1 ≡ 64 * number + (r + 1)
+    next = omega arith
+
+    -- what is counted of the row's cell
+    own_row : (h : ℕ) (counted : RowBits) (highs : ℕ) → ((digit_at r words.may && not (digit_at r words.must)) ≡ true → (unsigned_abs (span_of item.arg (ranges_of stage.frame stage.known row)).high ≡ h) × (h ≤ 549755813887)) →
+        AreRead ends (get_or single there false) (pairs_in_cell_below before.query item there before.frame before.known row) (pairs_in_cell_below stage.query item there stage.frame stage.known row) counted highs →
+        AreRead ends (get_or single there false) (pairs_in_cell_below before.query item there before.frame before.known (row + 1)) (pairs_in_cell_below stage.query item there stage.frame stage.known (row + 1))
+        (with_row counted (digit_at r words.must && digit_at r words.ones) (digit_at r words.must && digit_at r words.top)) (highs + cond (digit_at r words.may && not (digit_at r words.must)) h 0)
+    own_row h counted highs ended read =
+        subst (λ b. AreRead ends (get_or single there false) (pairs_in_cell_below before.query item there before.frame before.known (row + 1)) (pairs_in_cell_below stage.query item there stage.frame stage.known (row + 1))
+        (with_row counted (digit_at r words.must && b) (digit_at r words.must && digit_at r words.top)) (highs + cond (digit_at r words.may && not (digit_at r words.must)) h 0)) (sym (told.one_bit r below))
+        (stage_row stage item bits before is now known over ends are single longs row within (digit_at r words.may) (digit_at r words.must) (digit_at r words.top) h counted highs (told.may_bit r below) (told.must_bit r below) (told.top_bit r below)
+        ended there (own.is r below) (own.alone r below) read)
+
+    other_row : (cell : ℕ) (counted : RowBits) (highs : ℕ) → cell ≢ there →
+        AreRead ends (get_or single cell false) (pairs_in_cell_below before.query item cell before.frame before.known row) (pairs_in_cell_below stage.query item cell stage.frame stage.known row) counted highs →
+        AreRead ends (get_or single cell false) (pairs_in_cell_below before.query item cell before.frame before.known (row + 1)) (pairs_in_cell_below stage.query item cell stage.frame stage.known (row + 1)) counted highs
+    other_row cell counted highs away read =
+        stage_elsewhere stage item bits before is now known over ends are single longs row within cell counted highs (λ e. away (e ∙ sym (own.is r below))) read
+
+    -- a row that adds nothing
+    pub row_passed : IsQuiet stage known bits number words told r → (counts : CountedBits) → ReadTo counts r → ReadTo counts (r + 1)
+    row_passed still counts read = subst (λ n. AreReadBelow before stage item ends single n counts) next (record {
+      cells = read.cells;
+      highs = read.highs;
+      each = λ cell counted highs at at_high. elim (cases_eq cell there) [
+        | inl same ↦
+            (let nothing : highs + 0 ≡ highs = omega arith in
+            let start = subst (λ k. AreRead ends (get_or single k false) (pairs_in_cell_below before.query item k before.frame before.known row) (pairs_in_cell_below stage.query item k stage.frame stage.known row) counted highs) same (read.each cell counted highs at at_high) in
+            let more = own_row 0 counted highs (λ yes. absurd (false≢true (sym still.ends ∙ yes))) start in
+            subst (λ k. AreRead ends (get_or single k false) (pairs_in_cell_below before.query item k before.frame before.known (row + 1)) (pairs_in_cell_below stage.query item k stage.frame stage.known (row + 1)) counted highs) (sym same)
+            (subst (λ n. AreRead ends (get_or single there false) (pairs_in_cell_below before.query item there before.frame before.known (row + 1)) (pairs_in_cell_below stage.query item there stage.frame stage.known (row + 1)) counted n) (ap (λ b. highs + cond b 0 0) still.ends ∙ nothing)
+            (subst (λ k. AreRead ends (get_or single there false) (pairs_in_cell_below before.query item there before.frame before.known (row + 1)) (pairs_in_cell_below stage.query item there stage.frame stage.known (row + 1)) k (highs + cond (digit_at r words.may && not (digit_at r words.must)) 0 0))
+            (ap (λ b. with_row counted b (digit_at r words.must && digit_at r words.top)) still.ones ∙ ap (with_row counted false) still.tops ∙ uncounted counted) more)))
+        | inr away ↦ other_row cell counted highs away (read.each cell counted highs at at_high)
+      ];
+    })
+
+    -- a row that was counted in its cell
+    pub row_added : PairsAreFew → (h : ℕ) (old new : CountedBits) → digit_at r words.may ≡ true → h ≤ 549755813887 →
+        ((digit_at r words.may && not (digit_at r words.must)) ≡ true → (unsigned_abs (span_of item.arg (ranges_of stage.frame stage.known row)).high ≡ h) × (h ≤ 549755813887)) →
+        IsRowAdded old new there (digit_at r words.must) (digit_at r words.ones) (digit_at r words.top) h → ReadTo old r → ReadTo new (r + 1)
+    row_added few h old new may small ended added read = subst (λ n. AreReadBelow before stage item ends single n new) next (record {
+      cells = added.cells ∙ read.cells;
+      highs = added.highs ∙ read.highs;
+      each = λ cell counted highs at at_high. elim (cases_eq cell there) [
+        | inl same ↦
+            (let d : RowBits = record { ones = 0; at_top = 0 } in
+            let counted_before = get_or old.cells there d in
+            let high_before = get_or old.highs there 0 in
+            let at_old : slice_get old.cells there ≡ Some counted_before = slice_get-get_or old.cells there d (omega (arith, own.inside r below, read.cells)) in
+            let at_old_high : slice_get old.highs there ≡ Some high_before = slice_get-get_or old.highs there 0 (omega (arith, own.inside r below, read.highs)) in
+            let start = read.each there counted_before high_before at_old at_old_high in
+            let most = (few before.query item before.frame before.known row).in_cell there in
+            let rows = now.open_query.few_rows in
+            let fits = start.fits in
+            let now_bits = added.counted counted_before (omega (arith, start.few, most, within, rows)) (omega (arith, start.some, most, within, rows)) at_old in
+            let now_high = added.ended high_before (omega (arith, fits, most, within, rows, small)) at_old_high in
+            let bits_is : with_row counted_before (digit_at r words.must && digit_at r words.ones) (digit_at r words.must && digit_at r words.top) ≡ counted = same_Some _ counted (sym now_bits ∙ ap (slice_get new.cells) (sym same) ∙ at) in
+            let high_is : high_before + cond (digit_at r words.must) 0 h ≡ highs = same_Some _ highs (sym now_high ∙ ap (slice_get new.highs) (sym same) ∙ at_high) in
+            subst (λ k. AreRead ends (get_or single k false) (pairs_in_cell_below before.query item k before.frame before.known (row + 1)) (pairs_in_cell_below stage.query item k stage.frame stage.known (row + 1)) counted highs) (sym same)
+            (subst (λ n. AreRead ends (get_or single there false) (pairs_in_cell_below before.query item there before.frame before.known (row + 1)) (pairs_in_cell_below stage.query item there stage.frame stage.known (row + 1)) counted n)
+            (ap (λ n. high_before + n) (swapped (digit_at r words.may) (digit_at r words.must) h may) ∙ high_is)
+            (subst (λ k. AreRead ends (get_or single there false) (pairs_in_cell_below before.query item there before.frame before.known (row + 1)) (pairs_in_cell_below stage.query item there stage.frame stage.known (row + 1)) k (high_before + cond (digit_at r words.may && not (digit_at r words.must)) h 0)) bits_is
+            (own_row h counted_before high_before ended start))))
+        | inr away ↦
+            other_row cell counted highs away
+            (read.each cell counted highs (sym (added.others cell away) ∙ at) (sym (added.other_highs cell away) ∙ at_high))
+      ];
+    })

@@ -1,7 +1,7 @@
 -- A row of a column of which the next plane is read, and the cells that it is counted in.
-use Rattle.std.proofs.Common.{◌≡◌, ◌≢◌, ℕ, zero, suc, ◌+◌, ◌-◌, ◌*◌, ◌/◌, ◌%◌, ◌^◌, ◌<◌, ◌≤◌, ◌==◌, ◌&&◌, min, pos, ◌+ℤ◌, IsTrue, Bool, true, false, cond, List, [], ◌∷◌, ◌++◌, length, get_or, Some, refl, ap, sym, subst, ◌∙◌, arith, if◌then◌else◌}
+use Rattle.std.proofs.Common.{◌≡◌, ◌≢◌, ℕ, zero, suc, ◌+◌, ◌-◌, ◌*◌, ◌/◌, ◌%◌, ◌^◌, ◌<◌, ◌≤◌, ◌==◌, ◌&&◌, not, min, ℤ, pos, negsuc, ◌+ℤ◌, ◌≤ℤ◌, unsigned_abs, IsTrue, Bool, true, false, cond, List, [], ◌∷◌, ◌++◌, length, get_or, Some, None, refl, ap, sym, subst, ◌∙◌, arith, if◌then◌else◌}
 use Rattle.std.specs.List.{sum}
-use Rattle.std.proofs.lemmas.Bool.{or_parts}
+use Rattle.std.proofs.lemmas.Bool.{false≢true, or_parts}
 use Rattle.std.proofs.lemmas.Int.{ints}
 use Rattle.std.proofs.Math.Nat.{pow-suc}
 use Rattle.daq_table.specs.Tables.{planes, spread, width}
@@ -20,7 +20,7 @@ use Rattle.query_model.specs.Knowledge.{longer, ranges_of}
 use Rattle.query_model.specs.Meaning.{columns_of_pred}
 use Rattle.query_model.specs.Queries.{Aggregate, Column}
 use Rattle.query_model.specs.Truths.{Ranges, and_of, may_be_number, null_of, span_of, truth_of, truth_of_number}
-use Rattle.kleene_filter.specs.Filters.{is_possible, stands_in}
+use Rattle.kleene_filter.specs.Filters.{is_certain, is_possible, stands_in}
 use Rattle.kleene_filter.proofs.Tracking.{known_at_column}
 use Rattle.row_groups.specs.Partition.{is_group}
 use Rattle.row_values.specs.declared.short.ShortInterval.{ShortInterval}
@@ -114,6 +114,7 @@ module _ (old : KnownColumn) (bits : List Bool) (ends : DigitEnds) (are : AreEnd
       (record { certain = certain; low = (numbers_at (read_further old bits) row).low; high = (numbers_at (read_further old bits) row).high })
   row_read certain top is = record {
     certain = refl;
+    never_negative = (let never = ends.above in omega (arith, ints, never, low_before));
     low =
         (let weight : n * 2 ^ ends.unread ≡ p * 2 ^ (ends.unread + 1) + cond one (2 ^ ends.unread) 0 = ap (λ k. k * 2 ^ ends.unread) n_is ∙ weigh p ends.unread one in
         let low : (numbers_at (read_further old bits) row).low ≡ low_by ends n = ap (λ (i : Interval). i.low) span_now in
@@ -133,58 +134,88 @@ cells_still stage column bits before step =
 -- ---- the cells of a row
 
 -- a row that is not counted changes no count
-uncounted : (bits : RowBits) → with_row bits false false ≡ bits
+pub uncounted : (bits : RowBits) → with_row bits false false ≡ bits
 uncounted bits = same_counts (bits.ones + 0) bits.ones (bits.at_top + 0) bits.at_top (omega arith) (omega arith)
 
-module _ (before stage : Stage) (item : Aggregate) (ends : DigitEnds) (row : ℕ) (same : cell_of stage.known (groups_of stage.query.shape) row ≡ cell_of before.known (groups_of before.query.shape) row) where
-  abbrev pub Reads : ℕ → ℕ → RowBits → Type 0
-  Reads cell n bits = AreRead ends (pairs_in_cell_below before.query item cell before.frame before.known n) (pairs_in_cell_below stage.query item cell stage.frame stage.known n) bits
+natural : (z : ℤ) (h : ℕ) → pos 0 ≤ℤ z → unsigned_abs z ≡ h → z ≡ pos h
+natural (pos n) h least is = ap pos is
+natural (negsuc n) h least is = absurd (omega (arith, ints, least))
+
+-- no row of a column that is never negative ends below 0
+never_below : (ends : DigitEnds) (one top : Bool) (p q : Pair) → IsRowRead ends one top p q → pos 0 ≤ℤ q.high
+never_below ends one top p q read = (let least = read.never_negative in let low = read.low in let high = read.high in omega (arith, ints, least, low, high))
+
+module _ (before stage : Stage) (item : Aggregate) (ends : DigitEnds) (single : List Bool) (row : ℕ) (same : cell_of stage.known (groups_of stage.query.shape) row ≡ cell_of before.known (groups_of before.query.shape) row) where
+  abbrev pub Reads : ℕ → ℕ → RowBits → ℕ → Type 0
+  Reads cell n bits highs = AreRead ends (get_or single cell false) (pairs_in_cell_below before.query item cell before.frame before.known n) (pairs_in_cell_below stage.query item cell stage.frame stage.known n) bits highs
 
   -- a cell that the row is not in
-  pub read_elsewhere : (cell : ℕ) (bits : RowBits) → cell ≢ cell_of stage.known (groups_of stage.query.shape) row → Reads cell row bits → Reads cell (row + 1) bits
-  read_elsewhere cell bits other read =
-      subst (λ ps. AreRead ends ps (pairs_in_cell_below stage.query item cell stage.frame stage.known (row + 1)) bits) (sym (pairs_elsewhere before item row cell (λ e. other (e ∙ sym same))))
-      (subst (λ qs. AreRead ends (pairs_in_cell_below before.query item cell before.frame before.known row) qs bits) (sym (pairs_elsewhere stage item row cell other)) read)
+  pub read_elsewhere : (cell : ℕ) (bits : RowBits) (highs : ℕ) → cell ≢ cell_of stage.known (groups_of stage.query.shape) row → Reads cell row bits highs → Reads cell (row + 1) bits highs
+  read_elsewhere cell bits highs other read =
+      subst (λ ps. AreRead ends (get_or single cell false) ps (pairs_in_cell_below stage.query item cell stage.frame stage.known (row + 1)) bits highs) (sym (pairs_elsewhere before item row cell (λ e. other (e ∙ sym same))))
+      (subst (λ qs. AreRead ends (get_or single cell false) (pairs_in_cell_below before.query item cell before.frame before.known row) qs bits highs) (sym (pairs_elsewhere stage item row cell other)) read)
 
-  counted : (certain : Bool) (old new : Interval) (may one top : Bool) (bits : RowBits) → may ≡ true →
+  -- a row that may count, in its own cell
+  counted : (sure alone certain : Bool) (old new : Interval) (one top : Bool) (h : ℕ) (bits : RowBits) (highs : ℕ) → certain ≡ (sure && alone) →
       pair_in_own_cell before item row ≡ Some (record { certain = certain; low = old.low; high = old.high }) → pair_in_own_cell stage item row ≡ Some (record { certain = certain; low = new.low; high = new.high }) →
       IsRowRead ends one top (record { certain = certain; low = old.low; high = old.high }) (record { certain = certain; low = new.low; high = new.high }) →
-      (cell : ℕ) → cell ≡ cell_of stage.known (groups_of stage.query.shape) row → Reads cell row bits → Reads cell (row + 1) (with_row bits (may && one) (may && top))
-  counted certain old new may one top bits is was now row_read cell here read =
+      (sure ≡ false → (unsigned_abs new.high ≡ h) × (h ≤ 549755813887)) →
+      (cell : ℕ) → cell ≡ cell_of stage.known (groups_of stage.query.shape) row → get_or single cell false ≡ alone → Reads cell row bits highs →
+      Reads cell (row + 1) (with_row bits (sure && one) (sure && top)) (highs + cond sure 0 h)
+  counted sure alone certain old new one top h bits highs is was now row_read ended cell here told read =
       let p : Pair = record { certain = certain; low = old.low; high = old.high } in
       let q : Pair = record { certain = certain; low = new.low; high = new.high } in
       let there = cell_of stage.known (groups_of stage.query.shape) row in
       let before_row : pairs_in_cell_below before.query item there before.frame before.known (row + 1) ≡ pairs_in_cell_below before.query item there before.frame before.known row ++ p ∷ [] =
       subst (λ c. pairs_in_cell_below before.query item c before.frame before.known (row + 1) ≡ pairs_in_cell_below before.query item c before.frame before.known row ++ p ∷ []) (sym same) (pairs_with_row before item row p was) in
       let after_row = pairs_with_row stage item row q now in
-      subst (λ b. Reads cell (row + 1) (with_row bits (b && one) (b && top))) (sym is)
-      (subst (λ c. Reads c (row + 1) (with_row bits one top)) (sym here)
-      (subst (λ ps. AreRead ends ps (pairs_in_cell_below stage.query item there stage.frame stage.known (row + 1)) (with_row bits one top)) (sym before_row)
-      (subst (λ qs. AreRead ends (pairs_in_cell_below before.query item there before.frame before.known row ++ p ∷ []) qs (with_row bits one top)) (sym after_row)
-      (read_more ends one top _ _ bits p q row_read (subst (λ c. Reads c row bits) here read)))))
+      let b = get_or single there false in
+      let own : get_or single there false ≡ alone = subst (λ c. get_or single c false ≡ alone) here told in
+      let bits_now = with_row bits (sure && one) (sure && top) in
+      subst (λ c. Reads c (row + 1) bits_now (highs + cond sure 0 h)) (sym here)
+      (subst (λ ps. AreRead ends b ps (pairs_in_cell_below stage.query item there stage.frame stage.known (row + 1)) bits_now (highs + cond sure 0 h)) (sym before_row)
+      (subst (λ qs. AreRead ends b (pairs_in_cell_below before.query item there before.frame before.known row ++ p ∷ []) qs bits_now (highs + cond sure 0 h)) (sym after_row)
+      (read_more ends b sure one top h _ _ bits highs p q row_read (λ unsure. (natural new.high h (never_below ends one top p q row_read) (ended unsure).0, (ended unsure).1)) (is ∙ ap (λ x. sure && x) (sym own)) (subst (λ c. Reads c row bits highs) here read))))
 
-  -- the cell that it is in, by what is known of whether the row counts
-  pub read_here : (counts : Truth) (old new : Interval) (may one top : Bool) (bits : RowBits) → may ≡ is_possible counts → pair_in_own_cell before item row ≡ pair_unless_false counts old → pair_in_own_cell stage item row ≡ pair_unless_false counts new →
+  uncounted_here : (cell : ℕ) (bits : RowBits) (highs : ℕ) → pair_in_own_cell before item row ≡ None → pair_in_own_cell stage item row ≡ None → Reads cell row bits highs → Reads cell (row + 1) bits highs
+  uncounted_here cell bits highs was now read =
+      subst (λ ps. AreRead ends (get_or single cell false) ps (pairs_in_cell_below stage.query item cell stage.frame stage.known (row + 1)) bits highs) (sym (pairs_without_row before item row was cell))
+      (subst (λ qs. AreRead ends (get_or single cell false) (pairs_in_cell_below before.query item cell before.frame before.known row) qs bits highs) (sym (pairs_without_row stage item row now cell)) read)
+
+  -- the cell that it is in, by what is known of the condition there
+  pub read_here : (holds : Truth) (alone : Bool) (old new : Interval) (may must one top : Bool) (h : ℕ) (bits : RowBits) (highs : ℕ) → may ≡ is_possible holds → must ≡ is_certain holds →
+      pair_in_own_cell before item row ≡ pair_unless_false (and_of (and_of holds (if alone then True else Unknown)) (truth_of_number Never)) old →
+      pair_in_own_cell stage item row ≡ pair_unless_false (and_of (and_of holds (if alone then True else Unknown)) (truth_of_number Never)) new →
       ((certain : Bool) → IsRowRead ends one top (record { certain = certain; low = old.low; high = old.high }) (record { certain = certain; low = new.low; high = new.high })) →
-      (cell : ℕ) → cell ≡ cell_of stage.known (groups_of stage.query.shape) row → Reads cell row bits → Reads cell (row + 1) (with_row bits (may && one) (may && top))
-  read_here False old new may one top bits is was now row_read cell here read =
-      subst (Reads cell (row + 1)) (sym (ap (λ b. with_row bits (b && one) (b && top)) is ∙ uncounted bits))
-      (subst (λ ps. AreRead ends ps (pairs_in_cell_below stage.query item cell stage.frame stage.known (row + 1)) bits) (sym (pairs_without_row before item row was cell))
-      (subst (λ qs. AreRead ends (pairs_in_cell_below before.query item cell before.frame before.known row) qs bits) (sym (pairs_without_row stage item row now cell)) read))
-  read_here Unknown old new may one top bits is was now row_read cell here read = counted false old new may one top bits is was now (row_read false) cell here read
-  read_here True old new may one top bits is was now row_read cell here read = counted true old new may one top bits is was now (row_read true) cell here read
+      ((may && not must) ≡ true → (unsigned_abs new.high ≡ h) × (h ≤ 549755813887)) →
+      (cell : ℕ) → cell ≡ cell_of stage.known (groups_of stage.query.shape) row → get_or single cell false ≡ alone → Reads cell row bits highs →
+      Reads cell (row + 1) (with_row bits (must && one) (must && top)) (highs + cond (may && not must) h 0)
+  read_here False alone old new may must one top h bits highs may_is must_is was now row_read ended cell here told read =
+      let nothing : highs ≡ highs + 0 = omega arith in
+      subst (λ m. Reads cell (row + 1) (with_row bits (m && one) (m && top)) (highs + cond (may && not m) h 0)) (sym must_is)
+      (subst (λ m. Reads cell (row + 1) (with_row bits false false) (highs + cond (m && true) h 0)) (sym may_is)
+      (subst (λ n. Reads cell (row + 1) (with_row bits false false) n) nothing
+      (subst (λ k. Reads cell (row + 1) k highs) (sym (uncounted bits)) (uncounted_here cell bits highs was now read))))
+  read_here Unknown true old new may must one top h bits highs may_is must_is was now row_read ended cell here told read =
+      subst (λ m. Reads cell (row + 1) (with_row bits (m && one) (m && top)) (highs + cond (may && not m) h 0)) (sym must_is)
+      (subst (λ m. Reads cell (row + 1) (with_row bits false false) (highs + cond (m && true) h 0)) (sym may_is)
+      (counted false true false old new one top h bits highs refl was now (row_read false) (λ f. ended (ap (λ m. m && not must) may_is ∙ ap not must_is)) cell here told read))
+  read_here Unknown false old new may must one top h bits highs may_is must_is was now row_read ended cell here told read =
+      subst (λ m. Reads cell (row + 1) (with_row bits (m && one) (m && top)) (highs + cond (may && not m) h 0)) (sym must_is)
+      (subst (λ m. Reads cell (row + 1) (with_row bits false false) (highs + cond (m && true) h 0)) (sym may_is)
+      (counted false false false old new one top h bits highs refl was now (row_read false) (λ f. ended (ap (λ m. m && not must) may_is ∙ ap not must_is)) cell here told read))
+  read_here True true old new may must one top h bits highs may_is must_is was now row_read ended cell here told read =
+      subst (λ m. Reads cell (row + 1) (with_row bits (m && one) (m && top)) (highs + cond (may && not m) h 0)) (sym must_is)
+      (subst (λ m. Reads cell (row + 1) (with_row bits one top) (highs + cond (m && false) h 0)) (sym may_is)
+      (counted true true true old new one top h bits highs refl was now (row_read true) (λ f. absurd (false≢true (sym f))) cell here told read))
+  read_here True false old new may must one top h bits highs may_is must_is was now row_read ended cell here told read =
+      subst (λ m. Reads cell (row + 1) (with_row bits (m && one) (m && top)) (highs + cond (may && not m) h 0)) (sym must_is)
+      (subst (λ m. Reads cell (row + 1) (with_row bits one top) (highs + cond (m && false) h 0)) (sym may_is)
+      (counted true false false old new one top h bits highs refl was now (row_read false) (λ f. absurd (false≢true (sym f))) cell here told read))
 
 -- ---- a row of a stage
 
--- whether a row may count: where the condition may hold
-may_count : (t : Truth) (alone : Bool) → is_possible t ≡ is_possible (and_of (and_of t (if alone then True else Unknown)) (truth_of_number Never))
-may_count False alone = refl
-may_count Unknown true = refl
-may_count Unknown false = refl
-may_count True true = refl
-may_count True false = refl
-
-module _ (before : Stage) (c : ℕ) (bits : List Bool) (item : Aggregate) (ends : DigitEnds) (was : IsOpenStage before) (arg : item.arg ≡ Column c) (stays : moves_rows before.query c ≡ false) (within : c < length before.frame.columns) (longs : length bits ≡ before.frame.rows) (row : ℕ) (below : row < before.frame.rows) where
+module _ (before : Stage) (c : ℕ) (bits : List Bool) (item : Aggregate) (ends : DigitEnds) (single : List Bool) (was : IsOpenStage before) (arg : item.arg ≡ Column c) (stays : moves_rows before.query c ≡ false) (within : c < length before.frame.columns) (longs : length bits ≡ before.frame.rows) (row : ℕ) (below : row < before.frame.rows) where
   abbrev after : Stage
   after = stepped before c bits
 
@@ -245,26 +276,31 @@ module _ (before : Stage) (c : ℕ) (bits : List Bool) (item : Aggregate) (ends 
     ends_now = subst (λ w. AreEndsOf w ends) next_is are
 
     -- the row in its cell
-    pub row_in_cell : (may top : Bool) (counted : RowBits) → may ≡ is_possible holds → top ≡ is_at_top old.ends (column_at (columns_of after) c).known.read (get_or (column_at (columns_of after) c).known.prefixes row 0) →
-        (cell : ℕ) → cell ≡ cell_of after.known groups row → Reads before after item ends row same cell row counted → Reads before after item ends row same cell (row + 1) (with_row counted (may && get_or bits row false) (may && top))
-    row_in_cell may top counted may_is top_is cell here read =
+    pub row_in_cell : (may must top : Bool) (h : ℕ) (counted : RowBits) (highs : ℕ) → may ≡ is_possible holds → must ≡ is_certain holds →
+        top ≡ is_at_top old.ends (column_at (columns_of after) c).known.read (get_or (column_at (columns_of after) c).known.prefixes row 0) →
+        ((may && not must) ≡ true → (unsigned_abs (span_of item.arg new_ranges).high ≡ h) × (h ≤ 549755813887)) →
+        (cell : ℕ) → cell ≡ cell_of after.known groups row → get_or single cell false ≡ alone → Reads before after item ends single row same cell row counted highs →
+        Reads before after item ends single row same cell (row + 1) (with_row counted (must && get_or bits row false) (must && top)) (highs + cond (may && not must) h 0)
+    row_in_cell may must top h counted highs may_is must_is top_is ended cell here told read =
         let rows_were = was.knowledge.rows c within in
         let rows_are : rows_of_column next ≡ before.frame.rows = ap rows_of_column (sym next_is) ∙ now.knowledge.rows c within in
         let at : top ≡ is_at_top old.ends (old.known.read + 1) (get_or next.known.prefixes row 0) = top_is ∙ ap (λ (w : KnownColumn). is_at_top old.ends w.known.read (get_or w.known.prefixes row 0)) next_is in
-        read_here before after item ends row same counts (numbers_at old row) (numbers_at next row) may (get_or bits row false) top counted (may_is ∙ may_count holds alone)
+        let numbers : span_of item.arg new_ranges ≡ numbers_at next row = ap (λ e. span_of e new_ranges) arg ∙ ap (λ (w : KnownColumn). numbers_at w row) next_is in
+        read_here before after item ends single row same holds alone (numbers_at old row) (numbers_at next row) may must (get_or bits row false) top h counted highs may_is must_is
         (pair_before ends_now.never_null) (pair_after ends_now.never_null)
         (λ certain. row_read old bits ends ends_now known_before known_now row (omega (arith, below, rows_were)) (omega (arith, longs, rows_were)) (omega (arith, rows_are, rows_were)) certain top at)
-        cell here read
+        (λ unsure. subst (λ (i : Interval). (unsigned_abs i.high ≡ h) × (h ≤ 549755813887)) numbers (ended unsure))
+        cell here told read
 
     -- and in another
-    pub row_elsewhere : (cell : ℕ) (counted : RowBits) → cell ≢ cell_of after.known groups row → Reads before after item ends row same cell row counted → Reads before after item ends row same cell (row + 1) counted
-    row_elsewhere cell counted other read = read_elsewhere before after item ends row same cell counted other read
+    pub row_elsewhere : (cell : ℕ) (counted : RowBits) (highs : ℕ) → cell ≢ cell_of after.known groups row → Reads before after item ends single row same cell row counted highs → Reads before after item ends single row same cell (row + 1) counted highs
+    row_elsewhere cell counted highs other read = read_elsewhere before after item ends single row same cell counted highs other read
 
 the_column : (a b : ℕ) → Column a ≡ Column b → a ≡ b
 the_column a b e = cc
 
 -- the same at a stage of which another is told to be the one before
-module _ (stage : Stage) (item : Aggregate) (bits : List Bool) (before : Stage) (is : IsBefore stage item bits before) (now : IsOpenStage stage) (known : KnownColumn) (over : IsOverColumn item (columns_of stage) known) (ends : DigitEnds) (are : AreEndsOf known ends) (longs : length bits ≡ stage.frame.rows) (row : ℕ) (below : row < stage.frame.rows) where
+module _ (stage : Stage) (item : Aggregate) (bits : List Bool) (before : Stage) (is : IsBefore stage item bits before) (now : IsOpenStage stage) (known : KnownColumn) (over : IsOverColumn item (columns_of stage) known) (ends : DigitEnds) (are : AreEndsOf known ends) (single : List Bool) (longs : length bits ≡ stage.frame.rows) (row : ℕ) (below : row < stage.frame.rows) where
   abbrev c : ℕ
   c = is.column
 
@@ -280,21 +316,27 @@ module _ (stage : Stage) (item : Aggregate) (bits : List Bool) (before : Stage) 
   rows_is : stage.frame.rows ≡ before.frame.rows
   rows_is = ap (λ (s : Stage). s.frame.rows) is.step.read
 
-  abbrev ReadsAt : Stage → ℕ → ℕ → RowBits → Type 0
-  ReadsAt s cell n counted = AreRead ends (pairs_in_cell_below before.query item cell before.frame before.known n) (pairs_in_cell_below s.query item cell s.frame s.known n) counted
+  abbrev ReadsAt : Stage → ℕ → ℕ → RowBits → ℕ → Type 0
+  ReadsAt s cell n counted highs = AreRead ends (get_or single cell false) (pairs_in_cell_below before.query item cell before.frame before.known n) (pairs_in_cell_below s.query item cell s.frame s.known n) counted highs
 
-  pub stage_row : (may top : Bool) (counted : RowBits) → may ≡ is_possible (truth_of stage.query.pred (ranges_of stage.frame stage.known row)) → top ≡ is_at_top known.ends known.known.read (get_or known.known.prefixes row 0) →
-      (cell : ℕ) → cell ≡ cell_of stage.known (groups_of stage.query.shape) row → ReadsAt stage cell row counted → ReadsAt stage cell (row + 1) (with_row counted (may && get_or bits row false) (may && top))
-  stage_row may top counted may_is top_is cell here read =
+  pub stage_row : (may must top : Bool) (h : ℕ) (counted : RowBits) (highs : ℕ) → may ≡ is_possible (truth_of stage.query.pred (ranges_of stage.frame stage.known row)) →
+      must ≡ is_certain (truth_of stage.query.pred (ranges_of stage.frame stage.known row)) → top ≡ is_at_top known.ends known.known.read (get_or known.known.prefixes row 0) →
+      ((may && not must) ≡ true → (unsigned_abs (span_of item.arg (ranges_of stage.frame stage.known row)).high ≡ h) × (h ≤ 549755813887)) →
+      (cell : ℕ) → cell ≡ cell_of stage.known (groups_of stage.query.shape) row → get_or single cell false ≡ holds_one_key (groups_of stage.query.shape) (ranges_of stage.frame stage.known row) →
+      ReadsAt stage cell row counted highs → ReadsAt stage cell (row + 1) (with_row counted (must && get_or bits row false) (must && top)) (highs + cond (may && not must) h 0)
+  stage_row may must top h counted highs may_is must_is top_is ended cell here told read =
       let bit = get_or bits row false in
-      subst (λ s. ReadsAt s cell (row + 1) (with_row counted (may && bit) (may && top))) (sym is.step.read)
-      (row_in_cell before c bits item ends is.step.open_stage is.arg is.step.stays inside (longs ∙ rows_is) row (omega (arith, below, rows_is)) (subst IsOpenStage is.step.read now) (subst (λ w. AreEndsOf w ends) known_is are)
-      may top counted (may_is ∙ ap (λ (s : Stage). is_possible (truth_of s.query.pred (ranges_of s.frame s.known row))) is.step.read)
+      subst (λ s. ReadsAt s cell (row + 1) (with_row counted (must && bit) (must && top)) (highs + cond (may && not must) h 0)) (sym is.step.read)
+      (row_in_cell before c bits item ends single is.step.open_stage is.arg is.step.stays inside (longs ∙ rows_is) row (omega (arith, below, rows_is)) (subst IsOpenStage is.step.read now) (subst (λ w. AreEndsOf w ends) known_is are)
+      may must top h counted highs (may_is ∙ ap (λ (s : Stage). is_possible (truth_of s.query.pred (ranges_of s.frame s.known row))) is.step.read)
+      (must_is ∙ ap (λ (s : Stage). is_certain (truth_of s.query.pred (ranges_of s.frame s.known row))) is.step.read)
       (top_is ∙ ap (λ (w : KnownColumn). is_at_top w.ends w.known.read (get_or w.known.prefixes row 0)) known_is)
-      cell (here ∙ ap (λ (s : Stage). cell_of s.known (groups_of s.query.shape) row) is.step.read) (subst (λ s. ReadsAt s cell row counted) is.step.read read))
+      (λ unsure. subst (λ (s : Stage). (unsigned_abs (span_of item.arg (ranges_of s.frame s.known row)).high ≡ h) × (h ≤ 549755813887)) is.step.read (ended unsure))
+      cell (here ∙ ap (λ (s : Stage). cell_of s.known (groups_of s.query.shape) row) is.step.read)
+      (told ∙ ap (λ (s : Stage). holds_one_key (groups_of s.query.shape) (ranges_of s.frame s.known row)) is.step.read) (subst (λ s. ReadsAt s cell row counted highs) is.step.read read))
 
-  pub stage_elsewhere : (cell : ℕ) (counted : RowBits) → cell ≢ cell_of stage.known (groups_of stage.query.shape) row → ReadsAt stage cell row counted → ReadsAt stage cell (row + 1) counted
-  stage_elsewhere cell counted other read =
-      subst (λ s. ReadsAt s cell (row + 1) counted) (sym is.step.read)
-      (row_elsewhere before c bits item ends is.step.open_stage is.arg is.step.stays inside (longs ∙ rows_is) row (omega (arith, below, rows_is)) (subst IsOpenStage is.step.read now) (subst (λ w. AreEndsOf w ends) known_is are)
-      cell counted (λ e. other (e ∙ sym (ap (λ (s : Stage). cell_of s.known (groups_of s.query.shape) row) is.step.read))) (subst (λ s. ReadsAt s cell row counted) is.step.read read))
+  pub stage_elsewhere : (cell : ℕ) (counted : RowBits) (highs : ℕ) → cell ≢ cell_of stage.known (groups_of stage.query.shape) row → ReadsAt stage cell row counted highs → ReadsAt stage cell (row + 1) counted highs
+  stage_elsewhere cell counted highs other read =
+      subst (λ s. ReadsAt s cell (row + 1) counted highs) (sym is.step.read)
+      (row_elsewhere before c bits item ends single is.step.open_stage is.arg is.step.stays inside (longs ∙ rows_is) row (omega (arith, below, rows_is)) (subst IsOpenStage is.step.read now) (subst (λ w. AreEndsOf w ends) known_is are)
+      cell counted highs (λ e. other (e ∙ sym (ap (λ (s : Stage). cell_of s.known (groups_of s.query.shape) row) is.step.read))) (subst (λ s. ReadsAt s cell row counted highs) is.step.read read))

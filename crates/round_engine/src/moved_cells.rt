@@ -148,7 +148,7 @@ fn move_tallies(
 }
 
 // Whether a row of each cell surely counts that has any. It affects speed alone, here and below.
-fn has_sure_rows(cells: u32, running: &Running) -> bool
+pub(crate) fn has_sure_rows(cells: u32, running: &Running) -> bool
     requires { cells ≤ length running.now.cells }
 {
     for cell in 0..cells {

@@ -1,4 +1,4 @@
-use Rattle.std.proofs.Common.{◌≡◌, ℕ, ◌^◌, ◌==◌, ◌+◌, ◌*◌, ◌%◌, ◌<◌, ◌&&◌, get_or, slice_get, Some, refl, ap, sym, ◌∙◌, subst, arith, not, false, ℤ, to_z, of_z}
+use Rattle.std.proofs.Common.{◌≡◌, min, ℕ, ◌^◌, ◌==◌, ◌+◌, ◌*◌, ◌%◌, ◌<◌, ◌&&◌, get_or, slice_get, Some, refl, ap, sym, ◌∙◌, subst, arith, not, false, ℤ, to_z, of_z}
 use Rattle.std.proofs.lemmas.Option.{get_or_from_slice_get, slice_get-get_or}
 use Rattle.std.specs.Int.{bit_not, trailing_zeros, w64}
 use Rattle.std.specs.Int.Bits.{bit_and, bit_or}
@@ -15,15 +15,16 @@ use Rattle.row_values.specs.BlockValues.{AreShortValues}
 use Rattle.row_values.specs.declared.short.ShortInterval.{ShortInterval}
 use Rattle.round_engine.specs.Engines.{stage_of}
 use Rattle.round_engine.specs.KeptSums.{columns_of}
-use Rattle.round_engine.specs.MovedCells.{IsRowMoved}
+use Rattle.round_engine.specs.MovedCells.{AreMovedBelow, IsRowMoved}
 use Rattle.round_engine.specs.Stages.{Stage}
 use Rattle.round_engine.proofs.CellKept.{parted_rows}
 use Rattle.round_engine.proofs.CellPairs.{filter_words}
 use Rattle.round_engine.proofs.CellRows.{cell_counted, cell_is, cell_single, cells_fit}
 use Rattle.round_engine.proofs.CompactCells.{high_again, low_again, short_fits}
 use Rattle.round_engine.proofs.FilledBlocks.{filter_bit}
-use Rattle.round_engine.proofs.MovedCells.{counted_more, counted_start, counted_whole, digit_not, first_inside, stage_followed, words_tell}
-use Rattle.round_engine.proofs.SetBits.{rest_inside}
+use Rattle.round_engine.proofs.MovedCells.{digit_not, moved_passes, stage_followed, words_tell}
+use Rattle.round_engine.proofs.ReadBlocks.{first_low}
+use Rattle.round_engine.proofs.SetBits.{bit_below, done_more, done_start, done_whole, rest_inside}
 use Rattle.round_engine.proofs.RowPairs.{rows_of_mask}
 use Rattle.round_engine.proofs.moved_cells.sum_block.Goals as goal
 
@@ -52,8 +53,11 @@ returns-then-moved-eq0-clause-counted c = λ before is were start.
     let union = bit_or (bit_and c.word-must.result (bit_not w64 c.word.result)) (bit_and c.word-2.result (bit_not w64 c.word-may.result)) in
     let told = words_tell before stage item number c.word-may.result c.word-must.result c.word-2.result c.word.result c.first_bits-moved.result c.word-may.type_inv c.word.type_inv
     (c.first_bits-moved.ensures ∙ ap (λ n. union % 2 ^ n) as_many) words.may_bit words.must_bit may_was must_was in
-    counted_whole stage item before is c.pairs_are_few.ensures number c.first_bits-moved.result c.first_bits-moved.result told c.requires.number c.args.moves.now c.if-moved-eq0.true
-    (counted_start before stage item number c.first_bits-moved.result c.args.moves.now start)
+    let end : 64 * number + count_in_block number columns.frame.rows ≡ min (64 * number + 64) columns.frame.rows = omega (arith, c.requires.number) in
+    let first : 64 * number ≡ 64 * number + 0 = omega arith in
+    subst (λ n. AreMovedBelow before stage item n c.args.moves.now) end
+    (done_whole _ c.first_bits-moved.result c.first_bits-moved.result _ (moved_passes stage item before is c.pairs_are_few.ensures number c.first_bits-moved.result told c.args.moves.now)
+    (done_start _ c.first_bits-moved.result _ (subst (λ n. AreMovedBelow before stage item n c.args.moves.now) first start)) c.if-moved-eq0.true)
 
 pub cell_of-cell-requires : goal.cell_of-cell-requires
 cell_of-cell-requires c =
@@ -62,7 +66,7 @@ cell_of-cell-requires c =
     let as_many : c.min-count.result ≡ count_in_block number columns.frame.rows = omega (arith, c.min-count.ensures, c.rows.ensures.rows) in
     let lowest = bit_at-trailing_zeros w64 c.loop-rest.rest (omega (arith, c.loop-rest-test.true)) c.loop-rest.auto.rest-fits.fits in
     let here : trailing_zeros w64 c.loop-rest.rest < count_in_block number columns.frame.rows =
-    first_inside c.first_bits-moved.result _ (count_in_block number columns.frame.rows) (trailing_zeros w64 c.loop-rest.rest) (c.first_bits-moved.ensures ∙ ap (λ n. bit_or (bit_and c.word-must.result (bit_not w64 c.word.result)) (bit_and c.word-2.result (bit_not w64 c.word-may.result)) % 2 ^ n) as_many)
+    bit_below c.first_bits-moved.result (count_in_block number columns.frame.rows) (trailing_zeros w64 c.loop-rest.rest) (first_low c.first_bits-moved.result _ (count_in_block number columns.frame.rows) (c.first_bits-moved.ensures ∙ ap (λ n. bit_or (bit_and c.word-must.result (bit_not w64 c.word.result)) (bit_and c.word-2.result (bit_not w64 c.word-may.result)) % 2 ^ n) as_many))
     (c.loop-rest.invariant.inside (trailing_zeros w64 c.loop-rest.rest) (ap (λ b. b == 1) lowest.1)) in
     omega (arith, here, parted_rows (stage_of c.args.query.now columns) c.args.rows.cells.now c.args.rows.single.now c.requires.parted)
 
@@ -73,7 +77,7 @@ bounds-rows-cell c =
     let as_many : c.min-count.result ≡ count_in_block number columns.frame.rows = omega (arith, c.min-count.ensures, c.rows.ensures.rows) in
     let lowest = bit_at-trailing_zeros w64 c.loop-rest.rest (omega (arith, c.loop-rest-test.true)) c.loop-rest.auto.rest-fits.fits in
     let here : trailing_zeros w64 c.loop-rest.rest < count_in_block number columns.frame.rows =
-    first_inside c.first_bits-moved.result _ (count_in_block number columns.frame.rows) (trailing_zeros w64 c.loop-rest.rest) (c.first_bits-moved.ensures ∙ ap (λ n. bit_or (bit_and c.word-must.result (bit_not w64 c.word.result)) (bit_and c.word-2.result (bit_not w64 c.word-may.result)) % 2 ^ n) as_many)
+    bit_below c.first_bits-moved.result (count_in_block number columns.frame.rows) (trailing_zeros w64 c.loop-rest.rest) (first_low c.first_bits-moved.result _ (count_in_block number columns.frame.rows) (c.first_bits-moved.ensures ∙ ap (λ n. bit_or (bit_and c.word-must.result (bit_not w64 c.word.result)) (bit_and c.word-2.result (bit_not w64 c.word-may.result)) % 2 ^ n) as_many))
     (c.loop-rest.invariant.inside (trailing_zeros w64 c.loop-rest.rest) (ap (λ b. b == 1) lowest.1)) in
     let stage = stage_of c.args.query.now columns in
     let kept = c.requires.open_stage in
@@ -88,7 +92,7 @@ add_row-requires-clause-fits c =
     let as_many : c.min-count.result ≡ count_in_block number columns.frame.rows = omega (arith, c.min-count.ensures, c.rows.ensures.rows) in
     let lowest = bit_at-trailing_zeros w64 c.loop-rest.rest (omega (arith, c.loop-rest-test.true)) c.loop-rest.auto.rest-fits.fits in
     let here : trailing_zeros w64 c.loop-rest.rest < count_in_block number columns.frame.rows =
-    first_inside c.first_bits-moved.result _ (count_in_block number columns.frame.rows) (trailing_zeros w64 c.loop-rest.rest) (c.first_bits-moved.ensures ∙ ap (λ n. bit_or (bit_and c.word-must.result (bit_not w64 c.word.result)) (bit_and c.word-2.result (bit_not w64 c.word-may.result)) % 2 ^ n) as_many)
+    bit_below c.first_bits-moved.result (count_in_block number columns.frame.rows) (trailing_zeros w64 c.loop-rest.rest) (first_low c.first_bits-moved.result _ (count_in_block number columns.frame.rows) (c.first_bits-moved.ensures ∙ ap (λ n. bit_or (bit_and c.word-must.result (bit_not w64 c.word.result)) (bit_and c.word-2.result (bit_not w64 c.word-may.result)) % 2 ^ n) as_many))
     (c.loop-rest.invariant.inside (trailing_zeros w64 c.loop-rest.rest) (ap (λ b. b == 1) lowest.1)) in
     let r = trailing_zeros w64 c.loop-rest.rest in
     let arg : term_of c.item.inside.arg ≡ item.arg = ap (λ (i : Aggregate). i.arg) c.item.view_is in
@@ -107,7 +111,8 @@ loop-rest-init c = record {
   room = refl;
   cells = refl;
   inside = λ row bit. bit;
-  counted = λ before is were start. counted_start before (stage_of c.args.query.now c.args.columns.now) c.args.item.now c.args.number c.first_bits-moved.result c.args.moves.now start;
+  counted = λ before is were start. done_start _ c.first_bits-moved.result _ (let first : 64 * c.args.number ≡ 64 * c.args.number + 0 = omega arith in
+      subst (λ n. AreMovedBelow before (stage_of c.args.query.now c.args.columns.now) c.args.item.now n c.args.moves.now) first start);
 }
 
 pub loop-rest-preserved : goal.loop-rest-preserved
@@ -133,7 +138,7 @@ loop-rest-preserved c = record {
       let as_many : c.min-count.result ≡ count_in_block number columns.frame.rows = omega (arith, c.min-count.ensures, c.rows.ensures.rows) in
       let lowest = bit_at-trailing_zeros w64 c.loop-rest.rest (omega (arith, c.loop-rest-test.true)) c.loop-rest.auto.rest-fits.fits in
       let here : trailing_zeros w64 c.loop-rest.rest < count_in_block number columns.frame.rows =
-      first_inside c.first_bits-moved.result _ (count_in_block number columns.frame.rows) (trailing_zeros w64 c.loop-rest.rest) (c.first_bits-moved.ensures ∙ ap (λ n. bit_or (bit_and c.word-must.result (bit_not w64 c.word.result)) (bit_and c.word-2.result (bit_not w64 c.word-may.result)) % 2 ^ n) as_many)
+      bit_below c.first_bits-moved.result (count_in_block number columns.frame.rows) (trailing_zeros w64 c.loop-rest.rest) (first_low c.first_bits-moved.result _ (count_in_block number columns.frame.rows) (c.first_bits-moved.ensures ∙ ap (λ n. bit_or (bit_and c.word-must.result (bit_not w64 c.word.result)) (bit_and c.word-2.result (bit_not w64 c.word-may.result)) % 2 ^ n) as_many))
       (c.loop-rest.invariant.inside (trailing_zeros w64 c.loop-rest.rest) (ap (λ b. b == 1) lowest.1)) in
       let kept = c.requires.open_stage in
       let r = trailing_zeros w64 c.loop-rest.rest in
@@ -158,9 +163,10 @@ loop-rest-preserved c = record {
       let left_is = both_bits r _ values.possible _ _ (both_bits r c.word-2.result _ _ _ (may_was r here) (digit_not c.word-may.result r _ c.word-may.type_inv (omega (arith, here)) (words.may_bit r here))) (read.possible r here) in
       let counted = subst (λ n. IsRowMoved c.loop-rest.moves c.add_row.new.moves cell (c.has_bit.result && alone) c.has_bit-leaves.result n span.hi) low_is
       (subst (λ n. IsRowMoved c.loop-rest.moves c.add_row.new.moves cell (c.has_bit.result && alone) c.has_bit-leaves.result (again (get_or values.spans r span).lo) n) high_is c.add_row.ensures) in
-      counted_more stage item before is c.pairs_are_few.ensures number c.first_bits-moved.result c.loop-rest.rest told c.requires.number c.loop-rest.moves c.add_row.new.moves
-      (omega (arith, c.loop-rest-test.true)) c.loop-rest.auto.rest-fits.fits here
-      (stage_followed stage item before is row in_rows c.pairs_are_few.ensures c.loop-rest.moves c.add_row.new.moves cell (c.has_bit.result && alone) c.has_bit-leaves.result (record { low = span.lo; high = span.hi })
+      let next : row + 1 ≡ 64 * number + (r + 1) = omega arith in
+      done_more (count_in_block number columns.frame.rows) c.first_bits-moved.result c.loop-rest.rest _ (moved_passes stage item before is c.pairs_are_few.ensures number c.first_bits-moved.result told c.loop-rest.moves)
+      (c.loop-rest.invariant.counted before is were start) _ (omega (arith, c.loop-rest-test.true)) c.loop-rest.auto.rest-fits.fits here
+      (λ moved. subst (λ n. AreMovedBelow before stage item n c.add_row.new.moves) next (stage_followed stage item before is row in_rows c.pairs_are_few.ensures c.loop-rest.moves c.add_row.new.moves cell (c.has_bit.result && alone) c.has_bit-leaves.result (record { low = span.lo; high = span.hi })
       (record {
         place = cell_is stage c.args.rows.cells.now c.args.rows.single.now c.requires.parted kept.knowledge row in_rows cell there;
         came_is = ap (λ b. b && alone) (c.has_bit.ensures ∙ came_is) ∙ ap (λ b. ((is_certain (truth_at query.pred columns row) && not (is_certain (truth_at before.query.pred (columns_of before) row))) && not (may_be_null null)) && b) single;
@@ -169,8 +175,7 @@ loop-rest-preserved c = record {
         fits = fits;
         inside = inside_cells;
         counted = counted;
-      }))
-      (c.loop-rest.invariant.counted before is were start));
+      }) moved)));
 }
 
 pub returns-clause-counted : goal.returns-clause-counted
@@ -189,5 +194,7 @@ returns-clause-counted c = λ before is were start.
     let union = bit_or (bit_and c.word-must.result (bit_not w64 c.word.result)) (bit_and c.word-2.result (bit_not w64 c.word-may.result)) in
     let told = words_tell before stage item number c.word-may.result c.word-must.result c.word-2.result c.word.result c.first_bits-moved.result c.word-may.type_inv c.word.type_inv
     (c.first_bits-moved.ensures ∙ ap (λ n. union % 2 ^ n) as_many) words.may_bit words.must_bit may_was must_was in
-    counted_whole stage item before is c.pairs_are_few.ensures number c.first_bits-moved.result c.loop-rest.rest told c.requires.number c.loop-rest.moves (omega (arith, c.loop-rest-test.false))
-    (c.loop-rest.invariant.counted before is were start)
+    let end : 64 * number + count_in_block number columns.frame.rows ≡ min (64 * number + 64) columns.frame.rows = omega (arith, c.requires.number) in
+    subst (λ n. AreMovedBelow before stage item n c.loop-rest.moves) end
+    (done_whole _ c.first_bits-moved.result c.loop-rest.rest _ (moved_passes stage item before is c.pairs_are_few.ensures number c.first_bits-moved.result told c.loop-rest.moves)
+    (c.loop-rest.invariant.counted before is were start) (omega (arith, c.loop-rest-test.false)))

@@ -9,6 +9,7 @@ abbrev pub invariant-loop-number : goal.invariant-loop-number
 invariant-loop-number l = record {
   room : l.ones.room ≡ l.fn.ones.room;
   cells : length l.ones.cells ≡ cells_in (stage_of l.query l.columns);
+  highs : length l.ones.highs ≡ cells_in (stage_of l.query l.columns);
   counted : (before : Stage) → IsBefore (stage_of l.query l.columns) l.item l.plane before →
-      AreReadBelow before (stage_of l.query l.columns) l.item l.rows.ends (min (64 * l.number) l.columns.frame.rows) l.ones;
+      AreReadBelow before (stage_of l.query l.columns) l.item l.rows.ends l.rows.single.now (min (64 * l.number) l.columns.frame.rows) l.ones;
 }

@@ -9,8 +9,15 @@ use Rattle.query_model.specs.Bounds.{Pair}
 use Rattle.query_model.specs.Groups.{pairs_in_cell_below}
 use Rattle.round_engine.specs.Cells.{cells_in}
 use Rattle.round_engine.specs.Engines.{stage_of}
+use Rattle.round_engine.proofs.CellRows.{cells_fit}
 use Rattle.round_engine.proofs.OneCell.{ordered_cell}
 use Rattle.round_engine.proofs.read_cells.read_sums.Goals as goal
+
+pub bounds-rows-cell : goal.bounds-rows-cell
+bounds-rows-cell c =
+    let stage = stage_of c.args.query.now c.args.columns.now in
+    let counted = (c.cells_tell_keys.ensures c.args.columns.now.frame c.args.columns.now.known (groups_of c.args.query.now.shape) c.args.rows.cells.now c.requires.parted.cells_are).count in
+    omega (arith, counted, c.count-cell-end.ensures, c.loop-cell-test.true, cells_fit stage c.requires.open_stage, c.requires.parted.room)
 
 pub loop-cell-preserved : goal.loop-cell-preserved
 loop-cell-preserved c =
@@ -35,12 +42,14 @@ loop-cell-preserved c =
                 (let d : RowBits = record { ones = 0; at_top = 0 } in
                 let bits = get_or c.args.ones.now.cells cell d in
                 let at : slice_get c.args.ones.now.cells cell ≡ Some bits = slice_get-get_or c.args.ones.now.cells cell d (omega (arith, within, c.requires.cells)) in
+                let high = get_or c.args.ones.now.highs cell 0 in
+                let at_high : slice_get c.args.ones.now.highs cell ≡ Some high = slice_get-get_or c.args.ones.now.highs cell 0 (omega (arith, within, c.requires.highs)) in
                 let was = stand.stands cell (omega (arith, within, c.requires.count, stand.cells)) in
                 let pairs_then = pairs_in_cell_below before.query item cell before.frame before.known before.frame.rows in
                 let old : c.tally.result ≡ tally_of item.kind pairs_then =
                 same_Some _ _ (sym c.tally.ensures ∙ inv.rest cell (omega arith) ∙ was.kept) ∙ ap (λ kind. tally_of kind pairs_then) c.requires.room.kind in
                 let as_read = ap (λ n. tally_of item.kind (pairs_in_cell_below before.query item cell before.frame before.known n)) rows in
-                let told = c.in-Some.ensures bits at item.kind c.requires.kind (pairs_in_cell_below before.query item cell before.frame before.known columns.frame.rows) (pairs_now cell) (old ∙ as_read) (read.each cell bits at) in
+                let told = c.in-Some.ensures bits high at at_high item.kind c.requires.kind (pairs_in_cell_below before.query item cell before.frame before.known columns.frame.rows) (pairs_now cell) (old ∙ as_read) (read.each cell bits high at at_high) in
                 subst (λ j. StandsFor new j (pairs_now j)) (sym here) (record {
                   kept = set.kept ∙ ap Some told ∙ ap (λ kind. Some (tally_of kind (pairs_now cell))) (sym (set.kind ∙ inv.room.kind));
                   ordered = ordered_cell query item columns c.requires.open_stage.knowledge cell;

@@ -14,6 +14,6 @@ invariant-loop-cell l = record {
   count : length l.running.cells ≡ cells_in (stage_of l.query l.columns);
   rest : (k : ℕ) → l.cell ≤ k → slice_get l.running.cells k ≡ slice_get l.initial.running.cells k;
   done : (before : Stage) → before.frame.rows ≡ l.columns.frame.rows → StandForCells before l.item l.initial.running →
-      AreReadBelow before (stage_of l.query l.columns) l.item l.rows.ends l.columns.frame.rows l.ones → (k : ℕ) → k < l.cell →
+      AreReadBelow before (stage_of l.query l.columns) l.item l.rows.ends l.rows.single.now l.columns.frame.rows l.ones → (k : ℕ) → k < l.cell →
       StandsFor l.running k (pairs_in_cell_below l.query l.item k l.columns.frame l.columns.known l.columns.frame.rows);
 }
