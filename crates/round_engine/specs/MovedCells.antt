@@ -1,4 +1,4 @@
--- Items of many cells before the next plane of a column and behind it, where the condition reads the column, and neither the item nor a key.
+-- Items of many cells before the next plane of a column and behind it, where neither the item reads the column nor a key.
 use Rattle.std.specs.Prelude.{◌≡◌, ◌≢◌, ℕ, ℤ, Bool, false, List, length, if◌then◌else◌, slice_get}
 use Rattle.std.specs.declared.option.Option.TheVariants.{Some}
 use Rattle.aggregates.specs.Runnings.{Tallies}

@@ -43,7 +43,8 @@ pub record WereEach (stage : Stage) (column : ℕ) (bits : List Bool) (runnings 
   pub stood : StandForEach before runnings
 
 -- of each cell it is counted what the plane adds to its rows below a number; it is told which cells hold one key
-pub record AreReadBelow (before stage : Stage) (item : Aggregate) (ends : DigitEnds) (single : List Bool) (rows : ℕ) (counted : CountedBits) : Type 0 where
+pub record AreReadBelow (before stage : Stage) (item : Aggregate) (ends : DigitEnds) (single : List Bool) (rows : ℕ)
+    (counted : CountedBits) : Type 0 where
   pub cells : length counted.cells ≡ cells_in stage
   pub highs : length counted.highs ≡ cells_in stage
   pub each : (cell : ℕ) (bits : RowBits) (high : ℕ) → slice_get counted.cells cell ≡ Some bits → slice_get counted.highs cell ≡ Some high
@@ -59,7 +60,8 @@ pub record IsRowAdded (old new : CountedBits) (cell : ℕ) (sure one top : Bool)
   pub other_highs : (other : ℕ) → other ≢ cell → slice_get new.highs other ≡ slice_get old.highs other
   pub counted : (bits : RowBits) → bits.ones < 16777216 → bits.at_top < 16777216 → slice_get old.cells cell ≡ Some bits
       → slice_get new.cells cell ≡ Some (with_row bits (sure && one) (sure && top))
-  pub ended : (sum : ℕ) → sum + high < 2 ^ 64 → slice_get old.highs cell ≡ Some sum → slice_get new.highs cell ≡ Some (sum + cond sure 0 high)
+  pub ended : (sum : ℕ) → sum + high < 2 ^ 64 → slice_get old.highs cell ≡ Some sum
+      → slice_get new.highs cell ≡ Some (sum + cond sure 0 high)
 
 -- the words of a block of rows, of which the last may have fewer than 64: at which the condition may hold and surely holds, which have the
 -- bit of 1 in the plane, and which are at top
@@ -80,4 +82,5 @@ pub record AreBlockCells (stage : Stage) (single : List Bool) (number : ℕ) (ce
       → get_or cells r 0 ≡ cell_of stage.known (groups_of stage.query.shape) (64 * number + r)
   pub inside : (r : ℕ) → r < count_in_block number stage.frame.rows → get_or cells r 0 < cells_in stage
   pub alone : (r : ℕ) → r < count_in_block number stage.frame.rows
-      → get_or single (get_or cells r 0) false ≡ holds_one_key (groups_of stage.query.shape) (ranges_of stage.frame stage.known (64 * number + r))
+      → get_or single (get_or cells r 0) false
+      ≡ holds_one_key (groups_of stage.query.shape) (ranges_of stage.frame stage.known (64 * number + r))

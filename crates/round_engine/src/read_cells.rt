@@ -74,7 +74,7 @@ impl BlockWords {
     }
 }
 
-// Those of a block.
+// Reads the words of a block.
 fn read_words(
     query: &TypedQuery,
     columns: &LentColumns<'_>,
@@ -263,7 +263,8 @@ fn count_rows(
     ensures cells { length ones.new.cells ≡ cells_in (stage_of query.now columns.now) }
     ensures highs { length ones.new.highs ≡ cells_in (stage_of query.now columns.now) }
     ensures counted { (before : Stage) → IsBefore (stage_of query.now columns.now) item.now plane.now before
-        → AreReadBelow before (stage_of query.now columns.now) item.now rows.entry.ends rows.entry.single.now columns.now.frame.rows ones.new }
+        → AreReadBelow before (stage_of query.now columns.now) item.now rows.entry.ends rows.entry.single.now
+        columns.now.frame.rows ones.new }
 {
     cells_tell_keys();
     ones.begin(rows.cells.count());
@@ -292,7 +293,8 @@ fn read_sums(
     ensures room { HasRoom (stage_of query.now columns.now) item.now running.new }
     ensures stand { IsTrue result → (before : Stage) → before.frame.rows ≡ columns.now.frame.rows
         → StandForCells before item.now running.old
-        → AreReadBelow before (stage_of query.now columns.now) item.now rows.entry.ends rows.entry.single.now columns.now.frame.rows ones.now
+        → AreReadBelow before (stage_of query.now columns.now) item.now rows.entry.ends rows.entry.single.now
+        columns.now.frame.rows ones.now
         → StandForCells (stage_of query.now columns.now) item.now running.new }
 {
     cells_tell_keys();
