@@ -2,9 +2,9 @@
 //! token may stand there where a text that ends with it is not refused before its end.
 
 use crate::columns::column_named;
-use crate::parts::{push_parts, push_quoted, token_at};
+use crate::parts::{MOST_BYTES, push_parts, push_quoted, token_at};
 use sql_text::{SqlFault, parse};
-use sql_tokens::KEYWORDS;
+use sql_tokens::{KEYWORDS, tokens};
 use std::alloc::{AllocError, Global};
 
 // Tokens that may stand somewhere, and how they are told.
@@ -84,6 +84,50 @@ fn is_missing(word: &str) -> bool {
     word == "/" || word == "%" || word == "|"
 }
 
+// The token with which a text ends, or nothing.
+fn last_token(alloc: Global, text: &str) -> Result<&str, AllocError> {
+    if text.len() > MOST_BYTES {
+        return Ok("");
+    }
+    let (tokens, _) = tokens(alloc, text.as_bytes())?;
+    match tokens.as_slice().last() {
+        Some(token) => Ok(token_at(text, token.at)),
+        None => Ok(""),
+    }
+}
+
+// Whether the word is a name that is neither a keyword nor a column's.
+fn is_other_name(schema: &str, word: &str) -> bool {
+    match word.chars().next() {
+        Some(sign) if sign.is_ascii_alphabetic() => {
+            !is_keyword(word) && column_named(schema, word).is_none()
+        }
+        _ => false,
+    }
+}
+
+// Appends what is wrong with the word before the place, if it is one of other programs: says whether it is.
+fn push_before(
+    out: &mut String,
+    schema: &str,
+    token: &str,
+    before: &str,
+) -> Result<bool, AllocError> {
+    if !is_other_name(schema, before) {
+        return Ok(false);
+    }
+    let told = if is_missing(before) {
+        " is not in these queries"
+    } else if token == "(" {
+        " is no aggregate: these are COUNT, SUM, AVG, MIN and MAX"
+    } else {
+        return Ok(false);
+    };
+    push_quoted(out, before)?;
+    out.push_str(told)?;
+    Ok(true)
+}
+
 // Appends what may stand behind the text.
 fn push_tokens(alloc: Global, out: &mut String, front: &str) -> Result<(), AllocError> {
     let mut is_first = true;
@@ -112,6 +156,10 @@ pub(crate) fn push_syntax(
     if is_keyword(token) && column_named(schema, token).is_some() && goes_on(alloc, front, "x")? {
         push_quoted(out, token)?;
         return out.push_str(" is a keyword: the column of that name stands in double quotes");
+    }
+    let before = last_token(alloc, front)?;
+    if push_before(out, schema, token, before)? {
+        return Ok(());
     }
     if is_missing(token) {
         push_quoted(out, token)?;

@@ -3,6 +3,9 @@
 use std::alloc::AllocError;
 use std::str::from_utf8;
 
+// The most bytes of a text that is cut into tokens.
+pub(crate) const MOST_BYTES: usize = 65535;
+
 // Appends these texts.
 pub(crate) fn push_parts(out: &mut String, parts: &[&str]) -> Result<(), AllocError> {
     for part in parts {

@@ -4,13 +4,12 @@ use crate::caret::push_caret;
 use crate::columns::{Column, column_named, push_holds, push_names, push_takes};
 use crate::compared::compared_name;
 use crate::follow::push_syntax;
-use crate::parts::{number_between, push_parts, push_quoted, text_or_nothing, token_at};
+use crate::parts::{
+    MOST_BYTES, number_between, push_parts, push_quoted, text_or_nothing, token_at,
+};
 use crate::scene::Scene;
 use sql_tokens::{Kind, tokens};
 use std::alloc::{AllocError, Global};
-
-// The most bytes of a text that is looked at.
-const MOST_BYTES: usize = 65535;
 
 // A query and a place of it that is refused.
 #[derive(Clone, Copy)]

@@ -21,8 +21,11 @@ const USAGES: [(&str, &str); 8] = [
 
 // The options, and what stands behind each.
 const OPTIONS: [(&str, &str); 9] = [
-    ("--width", "a number of at most 9223372036854775807"),
-    ("--rounds", "a number of at most 4294967295"),
+    (
+        "--width",
+        "a whole number of at most 9223372036854775807, in units of the last digit shown",
+    ),
+    ("--rounds", "a whole number of at most 4294967295"),
     ("--policy", "widest, order, filter or balanced"),
     ("--reads", "names of columns, parted by commas"),
     ("--list", ""),
@@ -117,9 +120,13 @@ pub(crate) fn explain_usage(
         }
         return out.push_str("  daq help lists the commands\n");
     }
-    out.push_str("  ")?;
-    push_reason(out, scene, number)?;
-    out.push_str("\n")?;
+    if scene.word_or_nothing(2) == "--help" {
+        out.push_str("  daq help tells the commands and their options\n")?;
+    } else {
+        out.push_str("  ")?;
+        push_reason(out, scene, number)?;
+        out.push_str("\n")?;
+    }
     match beside(&USAGES, scene.word_or_nothing(1)) {
         Some(usage) => push_wanted(out, "  ", usage, "\n"),
         None => out.push_str("  daq help lists the commands\n"),
