@@ -33,7 +33,7 @@ TOLD = [
      "SELECT SUM(price) FROM t WHERE city = 5\n                                        ^\n  \"city\" holds texts: UTF-8 of at most 255 bytes; in a query in single quotes"),
     ("demo 1 5|SELECT SUM(a) FROM t|--widht 3", "usage: word 5", "\"--widht\" is no option\n  daq demo SEED ROWS SQL [OPTION ..]"),
     ("demo 1 5|SELECT SUM(a) FROM t|--width x", "usage: word 6",
-     "\"x\" may not stand behind --width: a number of at most 9223372036854775807\n  daq demo SEED ROWS SQL [OPTION ..]"),
+     "\"x\" may not stand behind --width: a whole number of at most 9223372036854775807, in units of the last digit shown\n  daq demo SEED ROWS SQL [OPTION ..]"),
     ("", "usage: word 1", "daq help lists the commands"),
     ("sum", "usage: word 1", "\"sum\" is no command\n  daq help lists the commands"),
     ("load BAD made SCHEMA", "table refused: record 3 column 2 is no value of its kind",
